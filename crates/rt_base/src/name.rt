@@ -1,0 +1,52 @@
+//! A name of the text.
+
+ghost use Rattle.std.specs.Prelude.{◌≡◌, ◌↔◌, IfOk, IsTrue};
+
+use std::alloc::{AllocError, Global};
+use std::marker::Model;
+
+/// A name, as its bytes. Contracts see the list of its bytes.
+#[derive(Debug, Drop)]
+pub struct Name {
+    bytes: Vec<u8>,
+}
+
+impl Model for Name {
+    ghost use Rattle.std.specs.Prelude.{List, ℕ};
+
+    ghost Value = { List ℕ };
+
+    ghost view = { λ n. n.bytes.items };
+}
+
+impl Name {
+    /// The name with these bytes. Takes no memory.
+    pub fn from_vec(bytes: Vec<u8>) -> Self
+        ensures { result ≡ bytes.items }
+    {
+        Name { bytes }
+    }
+
+    /// A name with these bytes.
+    pub fn from_slice(alloc: Global, bytes: &[u8]) -> Result<Self, AllocError>
+        ensures { IfOk result (λ name. name ≡ bytes.now) }
+    {
+        Ok(Name {
+            bytes: Vec::from_slice(alloc, bytes)?,
+        })
+    }
+
+    /// The bytes of the name.
+    pub fn as_slice(&self) -> &[u8]
+        ensures { result.now ≡ self.now }
+    {
+        self.bytes.as_slice()
+    }
+
+    /// Another name with the same bytes.
+    pub fn copy(&self, alloc: Global) -> Result<Self, AllocError>
+        ensures { IfOk result (λ name. name ≡ self.now) }
+    {
+        Name::from_slice(alloc, self.bytes.as_slice())
+    }
+}
