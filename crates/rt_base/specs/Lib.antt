@@ -1,1 +1,10 @@
 pub mod Listing
+pub mod Spans
+pub mod Layout
+pub mod Precedes
+pub mod Operations
+pub mod Matching
+pub mod Exchange
+pub mod Completion
+pub mod State
+pub mod MayMove
