@@ -8,3 +8,4 @@ pub mod Exchange
 pub mod Completion
 pub mod State
 pub mod MayMove
+pub mod WellFormed
