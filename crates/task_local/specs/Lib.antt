@@ -1,0 +1,4 @@
+pub mod Regions
+pub mod Local
+pub mod Waits
+pub mod StandsFor
