@@ -1,4 +1,5 @@
 pub mod Regions
 pub mod Local
+pub mod Packed
 pub mod Waits
 pub mod StandsFor
