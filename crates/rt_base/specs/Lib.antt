@@ -9,3 +9,5 @@ pub mod Completion
 pub mod State
 pub mod MayMove
 pub mod WellFormed
+pub mod InMemory
+pub mod Outside
