@@ -24,27 +24,27 @@ abbrev pub faulted : Filled → Filled
 faulted sink = record sink { faults = counted sink.faults }
 
 -- which calls are to fail, by their numbers from 0, and the number of the next call
-pub record Planned : Type 0 where
+pub record Scripted : Type 0 where
   pub fail : List ℕ
   pub call : ℕ
 
 -- the next call is to fail: its number is listed (this project's)
-abbrev pub IsFailing : Planned → Type 0
-IsFailing planned = Contains planned.fail planned.call
+abbrev pub IsFailing : Scripted → Type 0
+IsFailing script = Contains script.fail script.call
 
--- the plan after one more call
-abbrev pub after_call : Planned → Planned
-after_call planned = record planned { call = counted planned.call }
+-- the script after one more call
+abbrev pub after_call : Scripted → Scripted
+after_call script = record script { call = counted script.call }
 
 -- a fake source: the bytes that are left, the most that a read gives, which calls fail, and the count of faults
 pub record Feed : Type 0 where
   pub rest : List ℕ
   pub piece : ℕ
-  pub planned : Planned
+  pub script : Scripted
   pub faults : ℕ
 
 -- a fake sink: the sink in memory, the most that a failing write takes, and which calls fail
 pub record Drain : Type 0 where
   pub sink : Filled
   pub piece : ℕ
-  pub planned : Planned
+  pub script : Scripted

@@ -9,5 +9,6 @@ pub mod Completion
 pub mod State
 pub mod MayMove
 pub mod WellFormed
+pub mod Adapting
 pub mod InMemory
 pub mod Outside

@@ -176,9 +176,15 @@ pub struct Status {
 #[derive(Clone, Copy, Debug, PartialEq, Eq)]
 pub enum Entry {
     /// The task begins.
-    Start { task: TaskNo },
+    Start {
+        task: TaskNo,
+    },
     /// The task calls operation `op`, and so many of the operation's requests are incomplete after it.
-    Call { task: TaskNo, op: u32, pending: u32 },
+    Call {
+        task: TaskNo,
+        op: u32,
+        pending: u32,
+    },
     /// The task leaves the blocking operation `op`.
     Leave {
         task: TaskNo,
@@ -187,11 +193,20 @@ pub enum Entry {
         count: u32,
     },
     /// The body of the task has ended.
-    Return { task: TaskNo },
+    Return {
+        task: TaskNo,
+    },
     /// The task lets go of its accesses.
-    Release { task: TaskNo, from: u32, count: u32 },
+    Release {
+        task: TaskNo,
+        from: u32,
+        count: u32,
+    },
     /// A poller takes the first notice.
-    Poll { poller: u16, req: ReqNo },
+    Poll {
+        poller: u16,
+        req: ReqNo,
+    },
 }
 
 /// The entries of a history, in order.

@@ -10,9 +10,9 @@ mod outside;
 
 pub use adapters::{StdinSource, StdoutSink};
 pub use data::{
-    Access, Accesses, Body, Cells, Entries, Entry, FaultKind, Handle, Handles, History, How, Kernel,
-    Lens, LimitName, Mode, Names, Op, Peer, Phase, Phases, Program, ReqNo, Shows, Span, Status,
-    Statuses, TagSel, TaskDef, TaskNo, Tasks,
+    Access, Accesses, Body, Cells, Entries, Entry, FaultKind, Handle, Handles, History, How,
+    Kernel, Lens, LimitName, Mode, Names, Op, Peer, Phase, Phases, Program, ReqNo, Shows, Span,
+    Status, Statuses, TagSel, TaskDef, TaskNo, Tasks,
 };
 pub use listed::Listed;
 pub use memory::{FakeSink, FakeSource, MemSink, MemSource};

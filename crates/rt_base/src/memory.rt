@@ -42,7 +42,7 @@ impl MemSource {
 }
 
 // The bytes from this place on.
-fn after(bytes: &[u8], at: usize) -> &[u8]
+pub(crate) fn after(bytes: &[u8], at: usize) -> &[u8]
     requires { at ≤ length bytes.now }
     ensures { result.now ≡ drop at bytes.now }
 {
@@ -179,25 +179,25 @@ impl ByteSink for MemSink {
 
 // Which calls are to fail, by their numbers from 0, and the number of the next call.
 #[derive(Debug, Drop)]
-struct Plan {
+struct Script {
     fail: Vec<u32>,
     call: u64,
 }
 
-impl Model for Plan {
-    ghost use Rattle.rt_base.specs.InMemory.{Planned};
+impl Model for Script {
+    ghost use Rattle.rt_base.specs.InMemory.{Scripted};
 
-    ghost Value = { Planned };
+    ghost Value = { Scripted };
 
-    ghost view = { λ p. record { fail = p.fail.items; call = p.call } };
+    ghost view = { λ s. record { fail = s.fail.items; call = s.call } };
 }
 
-impl Plan {
+impl Script {
     // No call was made yet.
-    fn new(fail: Vec<u32>) -> Plan
+    fn new(fail: Vec<u32>) -> Script
         ensures { result ≡ record { fail = fail.items; call = 0 } }
     {
-        Plan { fail, call: 0 }
+        Script { fail, call: 0 }
     }
 
     // Counts the next call, and tells whether it is to fail.
@@ -223,7 +223,7 @@ fn is_listed(list: &[u32], number: u64) -> bool
 pub struct FakeSource {
     source: MemSource,
     piece: usize,
-    plan: Plan,
+    script: Script,
     faults: u64,
 }
 
@@ -233,7 +233,7 @@ impl Model for FakeSource {
 
     ghost Value = { Feed };
 
-    ghost view = { λ s. record { rest = s.source; piece = s.piece; planned = s.plan; faults = s.faults } };
+    ghost view = { λ s. record { rest = s.source; piece = s.piece; script = s.script; faults = s.faults } };
 
     ghost invariant = { λ s. 0 < s.piece };
 }
@@ -245,14 +245,14 @@ impl FakeSource {
         ensures { result ≡ record {
           rest = bytes.items;
           piece = piece;
-          planned = record { fail = fail.items; call = 0 };
+          script = record { fail = fail.items; call = 0 };
           faults = 0;
         } }
     {
         FakeSource {
             source: MemSource::new(bytes),
             piece,
-            plan: Plan::new(fail),
+            script: Script::new(fail),
             faults: 0,
         }
     }
@@ -277,19 +277,19 @@ impl ByteSource for FakeSource {
         ensures cause { HasReadCause self.old.faults self.new.faults result }
 
         // The calls that are listed fail, and no others.
-        ensures fails { (result ≡ Got.Failed) ↔ IsFailing self.old.planned }
-        ensures counts { IsFailing self.old.planned → self.new.faults ≡ counted self.old.faults }
+        ensures fails { (result ≡ Got.Failed) ↔ IsFailing self.old.script }
+        ensures counts { IsFailing self.old.script → self.new.faults ≡ counted self.old.faults }
 
         // Another call gives the least of its piece, the buffer and the rest.
         ensures gives { result ≢ Got.Failed
             → result ≡ got_of (min self.old.piece (min (length buf.old) (length self.old.rest))) }
         ensures no_fault { result ≢ Got.Failed → self.new.faults ≡ self.old.faults }
 
-        // Each call is counted, and the rest of the plan stays.
+        // Each call is counted, and the rest of the script stays.
         ensures piece { self.new.piece ≡ self.old.piece }
-        ensures after { self.new.planned ≡ after_call self.old.planned }
+        ensures after { self.new.script ≡ after_call self.old.script }
     {
-        if self.plan.next_fails() {
+        if self.script.next_fails() {
             self.faults = self.faults.saturating_add(1);
             return Got::Failed;
         }
@@ -303,7 +303,7 @@ impl ByteSource for FakeSource {
 pub struct FakeSink {
     sink: MemSink,
     piece: usize,
-    plan: Plan,
+    script: Script,
 }
 
 impl Model for FakeSink {
@@ -311,7 +311,7 @@ impl Model for FakeSink {
 
     ghost Value = { Drain };
 
-    ghost view = { λ s. record { sink = s.sink; piece = s.piece; planned = s.plan } };
+    ghost view = { λ s. record { sink = s.sink; piece = s.piece; script = s.script } };
 }
 
 impl FakeSink {
@@ -325,13 +325,13 @@ impl FakeSink {
         ensures { IfOk result (λ s. s ≡ record {
           sink = record { written = []; room = room; faults = 0 };
           piece = piece;
-          planned = record { fail = fail.items; call = 0 };
+          script = record { fail = fail.items; call = 0 };
         }) }
     {
         Ok(FakeSink {
             sink: MemSink::new(alloc, room)?,
             piece,
-            plan: Plan::new(fail),
+            script: Script::new(fail),
         })
     }
 
@@ -353,21 +353,21 @@ impl ByteSink for FakeSink {
         ensures cause { HasWriteCause self.old.sink.faults self.new.sink.faults result }
 
         // A call that is listed fails, and takes the front of its piece that fits.
-        ensures fails { IsFailing self.old.planned
+        ensures fails { IsFailing self.old.script
             → (result ≡ Put.Failed)
             × (self.new.sink ≡ faulted (filled_by (take self.old.piece buf.now) self.old.sink)) }
 
         // Another call does what the sink in memory does.
-        ensures fits { (IsFailing self.old.planned → ⊥) → length buf.now ≤ self.old.sink.room
+        ensures fits { (IsFailing self.old.script → ⊥) → length buf.now ≤ self.old.sink.room
             → (result ≡ Put.All) × (self.new.sink ≡ filled_by buf.now self.old.sink) }
-        ensures full { (IsFailing self.old.planned → ⊥) → self.old.sink.room < length buf.now
+        ensures full { (IsFailing self.old.script → ⊥) → self.old.sink.room < length buf.now
             → (result ≡ Put.Failed) × (self.new.sink ≡ faulted (filled_by buf.now self.old.sink)) }
 
-        // Each call is counted, and the rest of the plan stays.
+        // Each call is counted, and the rest of the script stays.
         ensures piece { self.new.piece ≡ self.old.piece }
-        ensures after { self.new.planned ≡ after_call self.old.planned }
+        ensures after { self.new.script ≡ after_call self.old.script }
     {
-        if self.plan.next_fails() {
+        if self.script.next_fails() {
             let most = buf.len().min(self.piece);
             self.sink.fill_and_fail(&buf[..most])
         } else {
