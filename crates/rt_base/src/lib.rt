@@ -18,3 +18,6 @@ pub use listed::Listed;
 pub use memory::{FakeSink, FakeSource, MemSink, MemSource};
 pub use name::Name;
 pub use outside::{ByteSink, ByteSource, Gate, Got, OpenGate, Point, Put};
+
+#[cfg(test)]
+mod tests;
