@@ -1,0 +1,250 @@
+-- What each kind of move of a task changes.
+use Rattle.std.proofs.Common.{◌≡◌, ◌≢◌, ℕ, zero, suc, ◌+◌, ◌-◌, ◌*◌, ◌<◌, ◌≤◌, Bool, true, false, ◌&&◌, ◌||◌, not, ◌⊎◌, List, [], ◌∷◌, ◌++◌, length, take, drop, slice_get, slice_set, get_or, Some, None, Option, refl, sym, ap, ◌∙◌, subst, inl, inr, cond, arith, rules}
+use Rattle.std.specs.Prelude.{ℤ, count_by, ◌==◌}
+use Rattle.std.specs.List.{list_any}
+use Rattle.std.proofs.lemmas.List.{length-append, length-drop}
+use Rattle.std.proofs.lemmas.List.Sums.{count_by_more_yes}
+use Rattle.std.proofs.lemmas.List.Folds.{list_any-append}
+use Rattle.std.proofs.lemmas.Bool.Decides.{nat_tests}
+use Rattle.rt_base.specs.declared.data.Status.{Status}
+use Rattle.std.proofs.lemmas.Option.{slice_get_within, get_or_from_slice_get}
+use Rattle.rt_base.specs.declared.data.ReqNo.{ReqNo}
+use Rattle.rt_base.specs.declared.data.Span.{Span}
+use Rattle.rt_base.specs.declared.data.Peer.{Peer}
+use Rattle.rt_base.specs.declared.data.TagSel.{TagSel}
+use Rattle.rt_base.specs.declared.data.How.{How}
+use Rattle.rt_base.specs.declared.data.Op.{Op}
+use Rattle.rt_base.specs.declared.data.Op.TheVariants as op
+use Rattle.rt_base.specs.declared.data.Phase.{Phase}
+use Rattle.rt_base.specs.declared.data.Phase.TheVariants as phase
+use Rattle.rt_base.specs.declared.data.Entry.{Entry}
+use Rattle.rt_base.specs.declared.data.Entry.TheVariants as entry
+use Rattle.rt_base.specs.declared.data.TaskDef.{TaskDef}
+use Rattle.rt_base.specs.declared.data.Program.{Program}
+use Rattle.rt_base.specs.Layout.{memory_len}
+use Rattle.rt_base.specs.Operations.{task_no, request, blocks, is_receive, is_posting, nth_at}
+use Rattle.rt_base.specs.Matching.{same_request}
+use Rattle.rt_base.specs.Exchange.{Exchange, post, partner}
+use Rattle.rt_base.specs.Completion.{is_posted, is_complete}
+use Rattle.rt_base.specs.State.{State, Task}
+use Rattle.rt_base.specs.MayMove.{MayMove}
+use Rattle.task_local.specs.Regions.{saved, loaded}
+use Rattle.task_local.specs.Local.{advanced, stop}
+use Rattle.task_local.specs.Packed.{packed}
+use Rattle.task_local.specs.Waits.{told, taken}
+use Rattle.core_book.specs.Machine.{move, start_move, return_move, release_move, leave_move, post_move, call_move, posted_task, noticed, open_count, is_expected}
+use Rattle.core_book.specs.Legal.{final, caller}
+use Rattle.core_book.specs.Kept.{moves_left, posted_by_phase, IsOrderly}
+use Rattle.core_book.proofs.Rows.{move-row}
+use Rattle.core_book.proofs.Stops.{posted_by-stop, left_at_stop, stop_started}
+use Rattle.core_book.proofs.After.{Changes}
+
+stop_is_started : (def : TaskDef) (k : ℕ) → stop def k ≢ phase.Waiting
+unfolding stop
+stop_is_started def k = stop_started k (drop k def.body.items)
+
+rest_counted : (ops : List Op) (k : ℕ) → k ≤ length ops → k + length (drop k ops) ≡ length ops
+rest_counted ops k within = omega (arith, length-drop k ops)
+
+fewer_at_start : (n left : ℕ) → left ≤ 2 * (n - 0) + 2 → left + 1 ≤ 2 * n + 3
+fewer_at_start n left few = omega arith
+
+-- the moves left at a stop
+left_by_stop : (def : TaskDef) (k : ℕ) → k ≤ length def.body.items → moves_left (length def.body.items) (stop def k) ≤ 2 * (length def.body.items - k) + 2
+unfolding stop
+left_by_stop def k within = left_at_stop (length def.body.items) k (drop k def.body.items) (rest_counted def.body.items k within)
+
+pub start_changes : (p : Program) (s : State) (t : ℕ) (def : TaskDef) (was : Task) → slice_get p.tasks.items t ≡ Some def → slice_get s.tasks t ≡ Some was → was.phase ≡ phase.Waiting
+    → MayMove p s t → IsOrderly p s
+    → Changes p s t def was (record { phase = stop def 0; copy = advanced def 0 (loaded p def s.memory); named = []; bound = [] }) (start_move p s t def).state (entry.Start (task_no t))
+start_changes p s t def was is_def is_task waiting may kept = record {
+  is_def = is_def;
+  is_task = is_task;
+  may = may;
+  who = refl;
+  moved = move-row p s t def was phase.Waiting is_def is_task waiting;
+  tasks = refl;
+  cells = kept.cells;
+  unbound = (refl, refl);
+  started = stop_is_started def 0;
+  fewer = rw waiting (fewer_at_start (length def.body.items) _ (left_by_stop def 0 (omega arith)));
+  later = rw waiting (omega arith);
+  posted = λ u n posted. inl posted;
+  told = omega arith;
+  noticed = omega arith }
+
+pub return_changes : (p : Program) (s : State) (t : ℕ) (def : TaskDef) (was : Task) → slice_get p.tasks.items t ≡ Some def → slice_get s.tasks t ≡ Some was → was.phase ≡ phase.Ended
+    → MayMove p s t → IsOrderly p s
+    → Changes p s t def was (record was { phase = phase.Returned }) (return_move s t was).state (entry.Return (task_no t))
+return_changes p s t def was is_def is_task ended may kept = record {
+  is_def = is_def;
+  is_task = is_task;
+  may = may;
+  who = refl;
+  moved = move-row p s t def was phase.Ended is_def is_task ended;
+  tasks = refl;
+  cells = kept.cells;
+  unbound = kept.unbound t was is_task;
+  started = λ e. cc;
+  fewer = rw ended (omega arith);
+  later = rw ended (omega arith);
+  posted = λ u n posted. inl posted;
+  told = omega arith;
+  noticed = omega arith }
+
+append_nil : {X : Type 0} (xs : List X) → xs ++ [] ≡ xs
+append_nil [] = refl
+append_nil (x ∷ xs) = ap (λ ys. x ∷ ys) (append_nil xs)
+
+-- the release of a task that bound no request
+bare_release : (p : Program) (s : State) (t : ℕ) (def : TaskDef) (was : Task) → was.named ≡ []
+    → release_move p s t def was ≡ record { state = record s { memory = saved p def was.copy s.memory; tasks = slice_set s.tasks t (record was { phase = phase.Released }) }; entry = entry.Release (task_no t) (length s.statuses) 0 }
+bare_release p s t def was nothing = rw (nothing, append_nil s.statuses) refl
+
+pub release_changes : (p : Program) (s : State) (t : ℕ) (def : TaskDef) (was : Task) → slice_get p.tasks.items t ≡ Some def → slice_get s.tasks t ≡ Some was → was.phase ≡ phase.Returned
+    → MayMove p s t → IsOrderly p s → length (saved p def was.copy s.memory) ≡ memory_len p
+    → Changes p s t def was (record was { phase = phase.Released }) (record s { memory = saved p def was.copy s.memory; tasks = slice_set s.tasks t (record was { phase = phase.Released }) })
+        (entry.Release (task_no t) (length s.statuses) 0)
+release_changes p s t def was is_def is_task returned may kept cells =
+    let nothing = (kept.unbound t was is_task).0 in
+    record {
+      is_def = is_def;
+      is_task = is_task;
+      may = may;
+      who = refl;
+      moved = move-row p s t def was phase.Returned is_def is_task returned ∙ bare_release p s t def was nothing;
+      tasks = refl;
+      cells = cells;
+      unbound = kept.unbound t was is_task;
+      started = λ e. cc;
+      fewer = rw returned (omega arith);
+      later = rw returned (omega arith);
+      posted = λ u n posted. inl posted;
+      told = omega arith;
+      noticed = omega arith }
+
+or_false : (b : Bool) → (b || false) ≡ b
+or_false true = refl
+or_false false = refl
+
+one_or_none : {X : Type 0} (b : Bool) (x : X) → length (cond b (x ∷ []) []) ≤ 1
+one_or_none true x = omega arith
+one_or_none false x = omega arith
+
+same_parts : (u t n m : ℕ) → ((u == t) && (n == m)) ≡ true → (u ≡ t) × (n ≡ m)
+same_parts u t n m same = grind (arith, nat_tests)
+
+below_count : (n m count : ℕ) → n ≡ m → count ≡ m + 1 → n < count
+below_count n m count same counted = omega arith
+
+fewer_after_leave : (n k left : ℕ) → k < n → left ≤ 2 * (n - (k + 1)) + 2 → left + 1 ≤ 2 * (n - k) + 1
+fewer_after_leave n k left within few = omega arith
+
+statuses_more : (old more : List Status) → length more ≤ 1 → length (old ++ more) ≤ length old + 1
+statuses_more old more few = omega (arith, length-append old more)
+
+-- a posting more in the body
+nth_at-suc : (def : TaskDef) (k : ℕ) (how : How) (span : Span) (peer : Peer) (tag : TagSel) (comm : ℕ) (status : Option Span) → slice_get def.body.items k ≡ Some (op.Post how span peer tag comm status)
+    → nth_at def (k + 1) ≡ nth_at def k + 1
+nth_at-suc def k how span peer tag comm status here =
+    let posting : Op = op.Post how span peer tag comm status in
+    count_by_more_yes is_posting def.body.items k posting (slice_get_within def.body.items k posting here)
+        (ap is_posting (get_or_from_slice_get def.body.items k posting posting here))
+
+-- one request more is posted
+posted_after_post : (p : Program) (e : Exchange) (req other : ReqNo) (cells : List ℤ) → is_posted (post p e req cells) other ≡ (is_posted e other || same_request other req)
+unfolding post
+posted_after_post p e req other cells = list_any-append (same_request other) e.posted (req ∷ []) ∙ ap (λ (b : Bool). list_any (same_request other) e.posted || b) (or_false (same_request other req))
+
+-- where a posting leaves its task
+record Posted (def : TaskDef) (k : ℕ) (was now : Task) : Type 0 where
+  named : now.named ≡ was.named
+  bound : now.bound ≡ was.bound
+  started : now.phase ≢ phase.Waiting
+  fewer : moves_left (length def.body.items) now.phase + 1 ≤ 2 * (length def.body.items - k) + 2
+  count : posted_by_phase def now.phase ≡ nth_at def k + 1
+
+fewer_by_one : (n k left : ℕ) → k < n → left ≤ 2 * (n - (k + 1)) + 2 → left + 1 ≤ 2 * (n - k) + 2
+fewer_by_one n k left within few = omega arith
+
+posted_leaves : (def : TaskDef) (k : ℕ) (was : Task) (blocking : Bool) → k < length def.body.items → nth_at def (k + 1) ≡ nth_at def k + 1 → Posted def k was (posted_task def k blocking was)
+posted_leaves def k was true within more = record {
+  named = refl;
+  bound = refl;
+  started = λ e. cc;
+  fewer = omega arith;
+  count = more }
+posted_leaves def k was false within more = record {
+  named = refl;
+  bound = refl;
+  started = stop_is_started def (k + 1);
+  fewer = fewer_by_one (length def.body.items) k _ within (left_by_stop def (k + 1) (omega arith));
+  count = posted_by-stop def (k + 1) (omega arith) ∙ more }
+
+-- at most one notice
+one_notice : (p : Program) (tasks : List Task) (e : Exchange) (other : Option ReqNo) → length (noticed p tasks e other) ≤ 1
+one_notice p tasks e None = omega arith
+one_notice p tasks e (Some req) = one_or_none (not (is_complete p e req) && is_expected p tasks req) req
+
+noticed_more : (old more : List ReqNo) → length more ≤ 1 → length (old ++ more) ≤ length old + 1
+noticed_more old more few = omega (arith, length-append old more)
+
+-- what the request of a posting tells of another that is posted now
+by_this_posting : (t u n m : ℕ) (before : Bool) → (before || same_request (request u n) (request t m)) ≡ true → (before ≡ true) ⊎ ((u ≡ t) × (n ≡ m))
+by_this_posting t u n m true posted = inl refl
+by_this_posting t u n m false posted = inr (same_parts u t n m posted)
+
+pub post_changes : (p : Program) (s : State) (t : ℕ) (def : TaskDef) (was : Task) (k : ℕ) (how : How) (span : Span) (peer : Peer) (tag : TagSel) (comm : ℕ) (status : Option Span)
+    → slice_get p.tasks.items t ≡ Some def → slice_get s.tasks t ≡ Some was → was.phase ≡ phase.At k → slice_get def.body.items k ≡ Some (op.Post how span peer tag comm status)
+    → MayMove p s t → IsOrderly p s
+    → Changes p s t def was (posted_task def k (blocks how) was) (post_move p s t def was k (blocks how)).state (post_move p s t def was k (blocks how)).entry
+post_changes p s t def was k how span peer tag comm status is_def is_task at is_op may kept =
+    let more = nth_at-suc def k how span peer tag comm status is_op in
+    let leaves = posted_leaves def k was (blocks how) (slice_get_within def.body.items k (op.Post how span peer tag comm status) is_op) more in
+    let req : ReqNo = request t (nth_at def k) in
+    let cells : List ℤ = packed def k was.copy in
+    record {
+      is_def = is_def;
+      is_task = is_task;
+      may = may;
+      who = refl;
+      moved = move-row p s t def was (phase.At k) is_def is_task at ∙ ap (call_move p s t def was k) is_op;
+      tasks = refl;
+      cells = kept.cells;
+      unbound = (leaves.named ∙ (kept.unbound t was is_task).0, leaves.bound ∙ (kept.unbound t was is_task).1);
+      started = leaves.started;
+      fewer = let before : moves_left (length def.body.items) was.phase ≡ 2 * (length def.body.items - k) + 2 = ap (moves_left (length def.body.items)) at in omega (arith, leaves.fewer);
+      later = let before : posted_by_phase def was.phase ≡ nth_at def k = ap (posted_by_phase def) at in omega (arith, leaves.count);
+      posted = λ u n posted. elim (by_this_posting t u n (nth_at def k) (is_posted s.exchange (request u n)) (sym (posted_after_post p s.exchange req (request u n) cells) ∙ posted)) [
+          inl before ↦ inl before
+        | inr mine ↦ inr (mine.0, below_count n (nth_at def k) _ mine.1 leaves.count) ];
+      told = omega arith;
+      noticed = noticed_more s.notices _ (one_notice p s.tasks s.exchange (partner p s.exchange req cells)) }
+
+-- a posting that was left tells at most one status
+told_once : (p : Program) (e : Exchange) (t : ℕ) (def : TaskDef) (k : ℕ) (how : How) (span : Span) (peer : Peer) (tag : TagSel) (comm : ℕ) (status : Option Span)
+    → slice_get def.body.items k ≡ Some (op.Post how span peer tag comm status) → length (told p e t def k) ≤ 1
+unfolding told
+told_once p e t def k how span peer tag comm status is_op = rw is_op (one_or_none (is_receive how) _)
+
+pub leave_changes : (p : Program) (s : State) (t : ℕ) (def : TaskDef) (was : Task) (k : ℕ) (how : How) (span : Span) (peer : Peer) (tag : TagSel) (comm : ℕ) (status : Option Span)
+    → slice_get p.tasks.items t ≡ Some def → slice_get s.tasks t ≡ Some was → was.phase ≡ phase.In k → slice_get def.body.items k ≡ Some (op.Post how span peer tag comm status)
+    → MayMove p s t → IsOrderly p s
+    → Changes p s t def was (record was { phase = stop def (k + 1); copy = advanced def (k + 1) (taken p s.exchange t def k was.copy) }) (leave_move p s t def was k).state (leave_move p s t def was k).entry
+leave_changes p s t def was k how span peer tag comm status is_def is_task in_k is_op may kept =
+    let within = slice_get_within def.body.items k (op.Post how span peer tag comm status) is_op in
+    record {
+      is_def = is_def;
+      is_task = is_task;
+      may = may;
+      who = refl;
+      moved = move-row p s t def was (phase.In k) is_def is_task in_k;
+      tasks = refl;
+      cells = kept.cells;
+      unbound = kept.unbound t was is_task;
+      started = stop_is_started def (k + 1);
+      fewer = rw in_k (fewer_after_leave (length def.body.items) k _ within (left_by_stop def (k + 1) (omega arith)));
+      later = rw (in_k, posted_by-stop def (k + 1) (omega arith)) (omega arith);
+      posted = λ u n posted. inl posted;
+      told = statuses_more s.statuses _ (told_once p s.exchange t def k how span peer tag comm status is_op);
+      noticed = omega arith }

@@ -1,0 +1,66 @@
+-- How a book keeps the state after its history. No public clause cites this module.
+use Rattle.std.specs.Prelude.{◌≡◌, ◌≢◌, ℕ, ◌+◌, ◌-◌, ◌*◌, ◌<◌, ◌≤◌, Bool, true, false, List, [], ◌∷◌, map, length, slice_get, Some, ℤ}
+use Rattle.rt_base.specs.declared.data.ReqNo.{ReqNo}
+use Rattle.rt_base.specs.declared.data.Phase.{Phase}
+use Rattle.rt_base.specs.declared.data.Phase.TheVariants as phase
+use Rattle.rt_base.specs.declared.data.Status.{Status}
+use Rattle.rt_base.specs.declared.data.Entry.{Entry}
+use Rattle.rt_base.specs.declared.data.TaskDef.{TaskDef}
+use Rattle.rt_base.specs.declared.data.Program.{Program}
+use Rattle.rt_base.specs.Layout.{memory_len}
+use Rattle.rt_base.specs.Operations.{request, postings, nth_at}
+use Rattle.rt_base.specs.Precedes.{LetGo}
+use Rattle.rt_base.specs.Exchange.{Exchange}
+use Rattle.rt_base.specs.Completion.{is_posted}
+use Rattle.rt_base.specs.State.{State, Task, let_go_at}
+use Rattle.rt_base.specs.WellFormed.{WellFormed}
+use Rattle.core_book.specs.Legal.{IsLegal, final}
+
+-- at most how many moves a task that stands there has left, if its body has so many operations
+abbrev pub moves_left : ℕ → Phase → ℕ
+moves_left n phase.Waiting = 2 * n + 3
+moves_left n (phase.At k) = 2 * (n - k) + 2
+moves_left n (phase.In k) = 2 * (n - k) + 1
+moves_left n phase.Ended = 2
+moves_left n phase.Returned = 1
+moves_left n phase.Released = 0
+
+-- at most how many moves all tasks have left
+abbrev pub all_left : List TaskDef → List Phase → ℕ
+all_left [] phases = 0
+all_left (def ∷ defs) [] = 0
+all_left (def ∷ defs) (at ∷ phases) = moves_left (length def.body.items) at + all_left defs phases
+
+-- how many requests a task that stands there has posted
+abbrev pub posted_by_phase : TaskDef → Phase → ℕ
+posted_by_phase def phase.Waiting = 0
+posted_by_phase def (phase.At k) = nth_at def k
+posted_by_phase def (phase.In k) = nth_at def (k + 1)
+posted_by_phase def phase.Ended = postings def.body.items
+posted_by_phase def phase.Returned = postings def.body.items
+posted_by_phase def phase.Released = postings def.body.items
+
+-- the tasks are those of the program, none has bound a request, each knows its place in its body,
+-- and what is posted is what the tasks have posted
+pub record IsOrderly (program : Program) (state : State) : Type 0 where
+  pub counted : length state.tasks ≡ length program.tasks.items
+  pub cells : length state.memory ≡ memory_len program
+  pub unbound : (t : ℕ) (task : Task) → slice_get state.tasks t ≡ Some task → (task.named ≡ []) × (task.bound ≡ [])
+  pub posted : (t n : ℕ) (def : TaskDef) (task : Task) → slice_get program.tasks.items t ≡ Some def → slice_get state.tasks t ≡ Some task
+      → is_posted state.exchange (request t n) ≡ true → n < posted_by_phase def task.phase
+
+-- the fields of a book are the state after its history, with room for what the tasks have left
+pub record IsKept (program : Program) (workers : ℕ) (entries : List Entry) (statuses : List Status) (memory : List ℤ) (phases : List Phase)
+    (exchange : Exchange) (notices : List ReqNo) (gone : LetGo) (handed : List Bool) (entry_places status_places notice_places : ℕ) : Type 0 where
+  pub well : WellFormed program
+  pub legal : IsLegal program workers entries statuses
+  pub memory_is : memory ≡ (final program entries).memory
+  pub phases_are : phases ≡ map (λ (task : Task). task.phase) (final program entries).tasks
+  pub exchange_is : exchange ≡ (final program entries).exchange
+  pub notices_are : notices ≡ (final program entries).notices
+  pub gone_is : gone.released ≡ (let_go_at phases).released
+  pub orderly : IsOrderly program (final program entries)
+  pub begun : (t : ℕ) (at : Phase) → slice_get phases t ≡ Some at → at ≢ phase.Waiting → slice_get handed t ≡ Some true
+  pub entry_room : length entries + all_left program.tasks.items phases ≤ entry_places
+  pub status_room : length statuses + all_left program.tasks.items phases ≤ status_places
+  pub notice_room : length notices + all_left program.tasks.items phases ≤ notice_places

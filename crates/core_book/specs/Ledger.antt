@@ -1,0 +1,26 @@
+-- What contracts see of a book, and what each of its moves does.
+use Rattle.std.specs.Prelude.{◌≡◌, ℕ, List, [], ◌∷◌, ◌++◌, Bool}
+use Rattle.rt_base.specs.declared.data.Status.{Status}
+use Rattle.rt_base.specs.declared.data.Entry.{Entry}
+use Rattle.rt_base.specs.declared.data.Program.{Program}
+use Rattle.task_local.specs.StandsFor.{Record, StandsFor}
+use Rattle.core_book.specs.Machine.{move}
+use Rattle.core_book.specs.Legal.{final}
+
+-- a book: the program and the number of workers for which it was built, the history so far, and which tasks were handed out
+pub record Ledger : Type 0 where
+  pub program : Program
+  pub workers : ℕ
+  pub history : List Entry
+  pub statuses : List Status
+  pub handed : List Bool
+
+-- the book has made the move of the record's task, and the record stands for the task in the state after it
+pub record MakesMove (old new : Ledger) (before after : Record) : Type 0 where
+  pub entry : new.history ≡ old.history ++ (move old.program (final old.program old.history) before.task).entry ∷ []
+  pub statuses : new.statuses ≡ (final old.program new.history).statuses
+  pub program : new.program ≡ old.program
+  pub workers : new.workers ≡ old.workers
+  pub handed : new.handed ≡ old.handed
+  pub task : after.task ≡ before.task
+  pub stands : StandsFor old.program after (final old.program new.history)

@@ -1,0 +1,4 @@
+pub mod Machine
+pub mod Legal
+pub mod Ledger
+pub mod Kept

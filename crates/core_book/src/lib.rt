@@ -1,0 +1,2 @@
+//! The machine that has a thread for each task, and its book: every move, and the history.
+#![tactic(auto)]
