@@ -1,0 +1,4 @@
+pub mod Extremes
+pub mod Lengths
+pub mod Loops
+pub mod Numbers
