@@ -89,8 +89,7 @@ pub fn jacobi2(dst: &mut [i64], left: &[i64])
 fn stencil(before: i64, here: i64, after: i64) -> i64
     ensures { result ≡ stencil_of before here after }
 {
-    before
-        .wrapping_add(2_i64.wrapping_mul(here))
-        .wrapping_add(after)
-        >> 2
+    let doubled = here.wrapping_mul(2);
+    let sum = before.wrapping_add(doubled).wrapping_add(after);
+    sum >> 2
 }
