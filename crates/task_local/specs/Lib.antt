@@ -1,5 +1,7 @@
 pub mod Regions
 pub mod Local
-pub mod Packed
 pub mod Waits
+pub mod Packed
 pub mod StandsFor
+pub mod Standing
+pub mod Kept

@@ -1,13 +1,10 @@
-// A library with one function.
+//! The record of a task: its own copy of the cells that it declares, and where it stands.
 #![tactic(auto)]
 
-ghost use Rattle.std.specs.Prelude.{◌≡◌};
-ghost use Rattle.task_local.specs.Echo.{echo_of};
+mod compute;
+mod record;
+mod regions;
+mod standing;
 
-// The `ensures` clause is the contract: what `echo` returns is `echo_of` of its argument, a definition
-// in `specs/Echo.antt`, which a caller's clause can cite too.
-pub fn echo(x: usize) -> usize
-    ensures { result ≡ echo_of x }
-{
-    x
-}
+pub use record::TaskRec;
+pub use standing::At;

@@ -1,0 +1,5 @@
+pub mod Places
+pub mod Order
+pub mod Copies
+pub mod Programs
+pub mod Kernels

@@ -1,0 +1,123 @@
+-- What a record keeps in its fields. No clause of a public call cites this module.
+use Rattle.std.specs.Prelude.{◌≡◌, ℕ, ◌+◌, ◌*◌, ◌^◌, ◌<◌, ◌≤◌, List, [], length, take, drop, All, slice_get, sum_by, ℤ, pos, ◌≤ℤ◌, Option, Some, None, false, if◌then◌else◌, ⊤}
+use Rattle.rt_base.specs.declared.data.Span.{Span}
+use Rattle.rt_base.specs.declared.data.Access.{Access}
+use Rattle.rt_base.specs.declared.data.Kernel.{Kernel}
+use Rattle.rt_base.specs.declared.data.Kernel.TheVariants as kernel
+use Rattle.rt_base.specs.declared.data.Op.{Op}
+use Rattle.rt_base.specs.declared.data.Op.TheVariants as op
+use Rattle.rt_base.specs.declared.data.Phase.{Phase}
+use Rattle.rt_base.specs.declared.data.Phase.TheVariants as phase
+use Rattle.rt_base.specs.declared.data.TaskDef.{TaskDef}
+use Rattle.rt_base.specs.declared.data.Program.{Program}
+use Rattle.rt_base.specs.Spans.{span_len}
+use Rattle.rt_base.specs.Operations.{is_receive}
+use Rattle.rt_base.specs.Layout.{array_place, address, memory_len}
+use Rattle.task_local.specs.Regions.{regions, cells_before}
+use Rattle.task_local.specs.StandsFor.{declared_cells}
+
+-- the phase names an operation that the task has
+abbrev pub IsPhaseOf : TaskDef → Phase → Type 0
+IsPhaseOf task phase.Waiting = ⊤
+IsPhaseOf task (phase.At k) = k < length task.body.items
+IsPhaseOf task (phase.In k) = k < length task.body.items
+IsPhaseOf task phase.Ended = ⊤
+IsPhaseOf task phase.Returned = ⊤
+IsPhaseOf task phase.Released = ⊤
+
+-- how many cells a local operation writes
+abbrev pub destination_len : Op → ℕ
+destination_len (op.Compute kind dst left right value step) = span_len dst
+destination_len (op.Post how span peer tag comm status) = 0
+destination_len (op.Await later handles status) = 0
+
+-- so many cells are enough for the destination of each of these operations
+abbrev pub HasRoomFor : List Op → ℕ → Type 0
+HasRoomFor ops count = All (λ operation. destination_len operation ≤ count) ops
+
+-- the task is there; its regions in order, a copy of its cells, and scratch for its longest destination
+pub record IsKept (program : Program) (t : ℕ) (where_at : Phase) (ordered : List Access) (copy scratch : List ℤ) : Type 0 where
+  pub task : TaskDef
+  pub is_task : slice_get program.tasks.items t ≡ Some task
+  pub place : IsPhaseOf task where_at
+  pub ordered_regions : ordered ≡ regions task.accesses.items
+  pub cells : length copy ≡ declared_cells task
+  pub room : HasRoomFor task.body.items (length scratch)
+
+-- the number of a region's first cell, by array and then by cell
+abbrev pub first_cell : Access → ℕ
+first_cell access = access.span.array * 2 ^ 32 + access.span.from
+
+-- how many cells a kernel takes from its sources for so many in its destination, and which number
+abbrev pub TakesCells : Kernel → ℕ → ℕ → ℕ → ℤ → Type 0
+TakesCells kernel.Fill count left right value = ⊤
+TakesCells kernel.Ramp count left right value = ⊤
+TakesCells kernel.Copy count left right value = left ≡ count
+TakesCells kernel.Add count left right value = (left ≡ count) × (right ≡ count)
+TakesCells kernel.Sub count left right value = (left ≡ count) × (right ≡ count)
+TakesCells kernel.Scale count left right value = left ≡ count
+TakesCells kernel.Shift count left right value = (left ≡ count) × (pos 0 ≤ℤ value) × (value ≤ℤ pos 63)
+TakesCells kernel.Jacobi2 count left right value = left ≡ count + 2
+TakesCells kernel.Sum count left right value = count ≡ 1
+TakesCells kernel.Least count left right value = (count ≡ 1) × (0 < left)
+TakesCells kernel.Greatest count left right value = (count ≡ 1) × (0 < left)
+
+-- how many cells of these regions come before a cell
+abbrev pub place_in : List Access → ℕ → ℕ → ℕ
+place_in ordered array cell = sum_by (cells_before array cell) ordered
+
+-- how many cells these regions have
+abbrev pub cell_total : List Access → ℕ
+cell_total ordered = sum_by (λ (access : Access). span_len access.span) ordered
+
+-- the cells of the span lie one behind another in so many cells of these regions
+abbrev pub FitsIn : List Access → ℕ → Span → Type 0
+FitsIn ordered count span = place_in ordered span.array span.from + span_len span ≤ count
+
+-- the same of a source, and how many cells it has
+abbrev pub SourceFits : List Access → ℕ → Option Span → Type 0
+SourceFits ordered count None = ⊤
+SourceFits ordered count (Some span) = FitsIn ordered count span
+
+abbrev pub source_len : Option Span → ℕ
+source_len None = 0
+source_len (Some span) = span_len span
+
+-- the cells of a source in the copy, none where there is no such source
+abbrev pub source_in : List Access → List ℤ → Option Span → List ℤ
+source_in ordered copy None = []
+source_in ordered copy (Some span) = take (span_len span) (drop (place_in ordered span.array span.from) copy)
+
+-- a local operation can run on a copy and with a scratch of so many cells
+pub record CanCompute (ordered : List Access) (copy scratch : ℕ) (kind : Kernel) (dst : Span) (left right : Option Span) (value : ℤ) : Type 0 where
+  pub room : span_len dst ≤ scratch
+  pub dst_fits : FitsIn ordered copy dst
+  pub left_fits : SourceFits ordered copy left
+  pub right_fits : SourceFits ordered copy right
+  pub takes : TakesCells kind (span_len dst) (source_len left) (source_len right) value
+
+-- so can an operation, if it is a local one
+abbrev pub CanRun : List Access → ℕ → ℕ → Op → Type 0
+CanRun ordered copy scratch (op.Compute kind dst left right value step) = CanCompute ordered copy scratch kind dst left right value
+CanRun ordered copy scratch (op.Post how span peer tag comm status) = ⊤
+CanRun ordered copy scratch (op.Await later handles status) = ⊤
+
+-- the span of a send fits
+abbrev pub FitsSend : List Access → ℕ → Op → Type 0
+FitsSend ordered count (op.Compute kind dst left right value step) = ⊤
+FitsSend ordered count (op.Post how span peer tag comm status) = is_receive how ≡ false → FitsIn ordered count span
+FitsSend ordered count (op.Await later handles status) = ⊤
+
+-- the cells that an operation sends
+abbrev pub sent_in : List Access → List ℤ → Op → List ℤ
+sent_in ordered copy (op.Compute kind dst left right value step) = []
+sent_in ordered copy (op.Post how span peer tag comm status) =
+    if is_receive how then [] else take (span_len span) (drop (place_in ordered span.array span.from) copy)
+sent_in ordered copy (op.Await later handles status) = []
+
+-- the region's cells lie in the memory of all ranks, which isn't too long
+pub record LiesIn (program : Program) (rank : ℕ) (access : Access) : Type 0 where
+  pub array : array_place program rank access.span.array ≤ length program.lens.items
+  pub inside : address program rank access.span.array access.span.from + span_len access.span ≤ memory_len program
+  pub few : length program.lens.items ≤ 65536
+  pub small : memory_len program ≤ 16777216

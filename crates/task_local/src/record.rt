@@ -1,0 +1,159 @@
+//! The record of a task.
+
+ghost use Rattle.std.specs.Prelude.{◌≡◌, ◌≢◌, ◌≤◌, ◌<◌, length, IfOk};
+ghost use Rattle.rt_base.specs.declared.data.Phase.TheVariants as phase;
+ghost use Rattle.rt_base.specs.Spans.{span_len};
+ghost use Rattle.rt_base.specs.Layout.{memory_len};
+ghost use Rattle.rt_base.specs.WellFormed.{WellFormed, IsDeclared};
+ghost use Rattle.task_local.specs.Regions.{put, loaded, saved};
+ghost use Rattle.task_local.specs.Standing.{def, at_phase, moved_on, packed_next, Follows, IsAtCall};
+
+use crate::compute::{run_from, sent_cells};
+use crate::regions::{cell_total_of, load_regions, ordered_regions, put_cells, save_regions};
+use crate::standing::{At, at_phase_of, longest_destination, task_def};
+use rt_base::{Access, Cells, Phase, Program, Span, TaskNo};
+use std::alloc::{AllocError, Global};
+use std::marker::Model;
+use std::snapshot::Snapshot;
+
+/// The record of a task of a program: its own copy of the cells that it declares, and where it stands.
+#[derive(Drop)]
+pub struct TaskRec {
+    program: Snapshot<Program>,
+    task: TaskNo,
+    phase: Phase,
+    ordered: Vec<Access>,
+    copy: Vec<i64>,
+    scratch: Vec<i64>,
+}
+
+impl Model for TaskRec {
+    ghost use Rattle.task_local.specs.StandsFor.{Record};
+    ghost use Rattle.task_local.specs.Kept.{IsKept};
+
+    ghost Value = { Record };
+
+    ghost view = { λ held. record { program = held.program.value; task = held.task.0; phase = held.phase; copy = held.copy.items } };
+
+    ghost invariant = { λ held. IsKept held.program.value held.task.0 held.phase held.ordered.items held.copy.items held.scratch.items };
+}
+
+impl TaskRec {
+    /// The record of a task that was not started. Takes all memory that the task's body needs.
+    pub fn make(alloc: Global, prog: &Program, task: TaskNo) -> Result<TaskRec, AllocError>
+        requires well_formed { WellFormed prog.now }
+        requires task { task.0 < length prog.now.tasks.items }
+        ensures program { IfOk result (λ held. held.program ≡ prog.now) }
+        ensures task { IfOk result (λ held. held.task ≡ task.0) }
+        ensures phase { IfOk result (λ held. held.phase ≡ phase.Waiting) }
+    {
+        let def = task_def(prog, task);
+        let ordered = ordered_regions(alloc, def.accesses.as_slice())?;
+        let copy = vec![in alloc; 0; cell_total_of(ordered.as_slice())]?;
+        let scratch = vec![in alloc; 0; longest_destination(def.body.as_slice())]?;
+        Ok(TaskRec {
+            program: Snapshot::of(prog),
+            task,
+            phase: Phase::Waiting,
+            ordered,
+            copy,
+            scratch,
+        })
+    }
+
+    /// The task.
+    pub fn task(&self) -> TaskNo
+        ensures { result.0 ≡ self.now.task }
+    {
+        self.task
+    }
+
+    /// How the task stands.
+    pub fn at(&self, prog: &Program) -> At
+        requires same { prog.now ≡ self.now.program }
+        ensures { result ≡ at_phase (def self.now) self.now.phase }
+    {
+        at_phase_of(task_def(prog, self.task), self.phase)
+    }
+
+    /// Runs the local operations that come next, up to the first other operation or the end of the body.
+    pub fn run_local(&mut self, prog: &Program)
+        requires well_formed { WellFormed prog.now }
+        requires same { prog.now ≡ self.old.program }
+        ensures { self.new ≡ moved_on (def self.old) self.old.phase self.old }
+    {
+        let def = task_def(prog, self.task);
+        match self.phase {
+            Phase::Waiting => {}
+            Phase::At(k) => self.phase = run_from(def, &self.ordered, &mut self.copy, &mut self.scratch, k),
+            Phase::In(_) => {}
+            Phase::Ended => {}
+            Phase::Returned => {}
+            Phase::Released => {}
+        }
+    }
+
+    /// Copies the task's cells in from the cells of all arrays of all ranks.
+    pub fn load(&mut self, prog: &Program, memory: &[i64])
+        requires well_formed { WellFormed prog.now }
+        requires same { prog.now ≡ self.old.program }
+        requires waiting { self.old.phase ≡ phase.Waiting }
+        requires memory { length memory.now ≡ memory_len prog.now }
+        ensures { self.new ≡ record self.old { copy = loaded prog.now (def self.old) memory.now } }
+    {
+        let def = task_def(prog, self.task);
+        load_regions(prog, def.rank, &self.ordered, memory, &mut self.copy);
+    }
+
+    /// Puts the task's `out` and `inout` cells back into the cells of all arrays of all ranks.
+    pub fn save(&self, prog: &Program, memory: &mut [i64])
+        requires well_formed { WellFormed prog.now }
+        requires same { prog.now ≡ self.now.program }
+        requires started { self.now.phase ≢ phase.Waiting }
+        requires memory { length memory.old ≡ memory_len prog.now }
+        ensures { memory.new ≡ saved prog.now (def self.now) self.now.copy memory.old }
+    {
+        let def = task_def(prog, self.task);
+        save_regions(prog, def.rank, &self.ordered, &self.copy, memory);
+    }
+
+    /// Sets where the task stands, to a phase that follows.
+    pub fn go(&mut self, prog: &Program, phase: Phase)
+        requires same { prog.now ≡ self.old.program }
+        requires follows { Follows (def self.old) self.old.phase phase }
+        ensures { self.new ≡ record self.old { phase = phase } }
+    {
+        let _ = prog;
+        self.phase = phase;
+    }
+
+    /// Stores cells at the front of a span of the task's cells.
+    pub fn store(&mut self, prog: &Program, span: Span, cells: &[i64])
+        requires well_formed { WellFormed prog.now }
+        requires same { prog.now ≡ self.old.program }
+        requires started { self.old.phase ≢ phase.Waiting }
+        requires declared { IsDeclared (def self.old).accesses.items span }
+        requires fits { length cells.now ≤ span_len span }
+        ensures { self.new ≡ record self.old { copy = put (def self.old) span cells.now self.old.copy } }
+    {
+        let _ = prog;
+        put_cells(&self.ordered, &mut self.copy, span, cells);
+    }
+
+    /// The cells that the call that is next sends, none where it is no send.
+    pub fn pack(&self, alloc: Global, prog: &Program) -> Result<Cells, AllocError>
+        requires well_formed { WellFormed prog.now }
+        requires same { prog.now ≡ self.now.program }
+        requires at_call { IsAtCall (def self.now) self.now.phase }
+        ensures { IfOk result (λ cells. cells.items ≡ packed_next (def self.now) self.now.phase self.now.copy) }
+    {
+        let def = task_def(prog, self.task);
+        match self.phase {
+            Phase::At(k) => {
+                let sent = sent_cells(&self.ordered, &self.copy, &def.body.as_slice()[k as usize]);
+                Ok(Cells::from_vec(sent.to_vec(alloc)?))
+            }
+            Phase::Waiting | Phase::In(_) | Phase::Ended | Phase::Returned | Phase::Released => Ok(Cells::empty(alloc)),
+        }
+    }
+}

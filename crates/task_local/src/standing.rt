@@ -1,0 +1,90 @@
+//! How a task stands, and where its operations are.
+
+ghost use Rattle.std.specs.Prelude.{◌≡◌, ◌<◌, length, slice_get, Some};
+ghost use Rattle.rt_base.specs.Spans.{span_len};
+ghost use Rattle.task_local.specs.Kept.{HasRoomFor, IsPhaseOf, destination_len};
+ghost use Rattle.task_local.specs.Standing.{at_operation, at_phase};
+
+use rt_base::{Op, Phase, Program, Span, TaskDef, TaskNo};
+
+/// How a task stands.
+#[derive(Clone, Copy, Debug, PartialEq, Eq)]
+pub enum At {
+    /// A local operation is next.
+    Local,
+    /// It was not started.
+    Fresh,
+    /// The call, an operation of this number, is next.
+    Call(u32),
+    /// In the blocking operation of this number.
+    In(u32),
+    /// The body has ended.
+    Ended,
+    /// Returned, with requests perhaps still bound to it.
+    Returned,
+    /// Its accesses are let go.
+    Released,
+}
+
+// The task of this number.
+pub(crate) fn task_def(prog: &Program, task: TaskNo) -> &TaskDef
+    requires { task.0 < length prog.now.tasks.items }
+    ensures { slice_get prog.now.tasks.items task.0 ≡ Some result.now }
+{
+    &prog.tasks.as_slice()[task.0 as usize]
+}
+
+// How a task in this phase stands.
+pub(crate) fn at_phase_of(def: &TaskDef, phase: Phase) -> At
+    requires { IsPhaseOf def.now phase }
+    ensures { result ≡ at_phase def.now phase }
+{
+    match phase {
+        Phase::Waiting => At::Fresh,
+        Phase::At(k) => at_operation_of(&def.body.as_slice()[k as usize], k),
+        Phase::In(k) => At::In(k),
+        Phase::Ended => At::Ended,
+        Phase::Returned => At::Returned,
+        Phase::Released => At::Released,
+    }
+}
+
+// How a task stands that is before this operation.
+fn at_operation_of(op: &Op, k: u32) -> At
+    ensures { result ≡ at_operation k (Some op.now) }
+{
+    match op {
+        Op::Compute { .. } => At::Local,
+        Op::Post { .. } => At::Call(k),
+        Op::Await { .. } => At::Call(k),
+    }
+}
+
+// How many cells a span has.
+pub(crate) fn cell_count(span: Span) -> usize
+    ensures { result ≡ span_len span }
+{
+    span.to.saturating_sub(span.from) as usize
+}
+
+// How many cells the longest destination of these operations has.
+pub(crate) fn longest_destination(body: &[Op]) -> usize
+    ensures { HasRoomFor body.now result }
+{
+    let mut longest = 0;
+    for op in body {
+        longest = destination(op).max(longest);
+    }
+    longest
+}
+
+// How many cells a local operation writes.
+fn destination(op: &Op) -> usize
+    ensures { result ≡ destination_len op.now }
+{
+    match op {
+        Op::Compute { dst, .. } => cell_count(*dst),
+        Op::Post { .. } => 0,
+        Op::Await { .. } => 0,
+    }
+}
