@@ -1,11 +1,12 @@
 -- What a program that may be run gives for a task of it.
-use Rattle.std.proofs.Common.{◌≡◌, ℕ, ◌+◌, ◌-◌, ◌*◌, ◌^◌, ◌<◌, ◌≤◌, Bool, true, ℤ, List, [], ◌∷◌, length, get_or, take, drop, length-drop, All, sum, sum_by, slice_get, Option, Some, None, unwrap_or, sym, ap, ◌∙◌, refl, subst, mul_comm, mul-le-mul, arith}
+use Rattle.std.proofs.Common.{◌≡◌, ℕ, ◌+◌, ◌-◌, ◌*◌, ◌^◌, ◌<◌, ◌≤◌, Bool, true, false, true≢false, if◌then◌else◌, ℤ, List, [], ◌∷◌, length, get_or, take, drop, length-drop, All, sum, sum_by, slice_get, Option, Some, None, unwrap_or, sym, ap, ◌∙◌, refl, subst, mul_comm, mul-le-mul, arith}
 use Rattle.std.proofs.lemmas.Nat.{mul-add-lt}
 use Rattle.std.proofs.lemmas.Option.{get_or_from_slice_get, slice_get_within, same_Some}
 use Rattle.std.proofs.lemmas.List.Elements.{All-get_or}
 use Rattle.std.proofs.lemmas.List.Sums.{get_or-le-sum_by, sum_by_more_le}
 use Rattle.rt_base.specs.declared.data.Span.{Span}
 use Rattle.rt_base.specs.declared.data.Access.{Access}
+use Rattle.rt_base.specs.declared.data.How.TheVariants as how
 use Rattle.rt_base.specs.declared.data.Op.{Op}
 use Rattle.rt_base.specs.declared.data.Op.TheVariants as op
 use Rattle.rt_base.specs.declared.data.Phase.{Phase}
@@ -13,16 +14,18 @@ use Rattle.rt_base.specs.declared.data.Phase.TheVariants as phase
 use Rattle.rt_base.specs.declared.data.TaskDef.{TaskDef}
 use Rattle.rt_base.specs.declared.data.Program.{Program}
 use Rattle.rt_base.specs.Spans.{span_len}
+use Rattle.rt_base.specs.Operations.{is_receive}
 use Rattle.rt_base.specs.Layout.{array_count, array_place, memory_len}
-use Rattle.rt_base.specs.WellFormed.{WellFormed, IsTask, IsSpan, IsOperation, OfSpan, MayRead, region_cells}
-use Rattle.task_local.specs.Regions.{regions}
+use Rattle.rt_base.specs.WellFormed.{WellFormed, IsTask, IsSpan, IsOperation, IsDeclared, OfSpan, MayRead, region_cells}
+use Rattle.task_local.specs.Regions.{regions, put, spliced}
+use Rattle.task_local.specs.Packed.{packed_by, packed}
 use Rattle.task_local.specs.Local.{run_front, stop_at, advanced, stop}
 use Rattle.task_local.specs.StandsFor.{Record, declared_cells}
-use Rattle.task_local.specs.Standing.{no_task, def_of, def, moved_on}
-use Rattle.task_local.specs.Kept.{LiesIn, CanRun, SourceFits, HasRoomFor, IsPhaseOf, destination_len, cell_total}
+use Rattle.task_local.specs.Standing.{no_task, def_of, def, moved_on, packed_next}
+use Rattle.task_local.specs.Kept.{LiesIn, FitsSend, sent_in, place_in, CanRun, SourceFits, HasRoomFor, IsPhaseOf, destination_len, cell_total}
 use Rattle.task_local.proofs.Places.{is_filled, All-regions, regions_filled, declared_fits_in, cell_total-regions}
 use Rattle.task_local.proofs.Order.{IsLowFilled, filled_is}
-use Rattle.task_local.proofs.Kernels.{takes_cells}
+use Rattle.task_local.proofs.Kernels.{takes_cells, source_is, put_in}
 
 -- one number has one task
 pub one_task : (p q : Program) (t : ℕ) (one other : TaskDef) → p ≡ q → slice_get p.tasks.items t ≡ Some one → slice_get q.tasks.items t ≡ Some other → one ≡ other
@@ -146,3 +149,57 @@ pub moved_on_is : (held : Record) (d : TaskDef) (k : ℕ) (stopped : Phase) (cop
   → record held { phase = stopped; copy = copy } ≡ moved_on (def held) held.phase held
 unfolding advanced stop
 moved_on_is held d k stopped copy is_at is_def is_stopped is_copy = rw (is_at, is_def, is_stopped, is_copy) refl
+
+-- what is stored at the front of a declared span has its places in the copy
+pub record_stores : (task : TaskDef) (ordered : List Access) (count cells : ℕ) (span : Span) → ordered ≡ regions task.accesses.items → count ≡ declared_cells task
+  → IsDeclared task.accesses.items span → cells ≤ span_len span → place_in ordered span.array span.from + cells ≤ count
+record_stores task ordered count cells span order all declared fits =
+    let within = declared_fits_in task.accesses.items span declared in
+    let e = ap (λ (found : List Access). place_in found span.array span.from) order in
+    omega arith
+
+pub stored_is : (held : Record) (task : TaskDef) (ordered : List Access) (span : Span) (cells copied : List ℤ) → def held ≡ task → ordered ≡ regions task.accesses.items
+  → copied ≡ spliced (place_in ordered span.array span.from) cells held.copy → record held { copy = copied } ≡ record held { copy = put (def held) span cells held.copy }
+stored_is held task ordered span cells copied is_def order is_copied =
+    rw is_def (ap (λ (copy : List ℤ). record held { copy = copy }) (is_copied ∙ put_in task ordered held.copy cells span order))
+
+-- ---- what is sent
+
+fits_send : (p : Program) (task : TaskDef) (operation : Op) → IsOperation p task operation → FitsSend (regions task.accesses.items) (cell_total task.accesses.items) operation
+fits_send p task (op.Compute kind dst left right value step) is = tt
+fits_send p task (op.Post how.Send span whom selected comm None) is = λ sends. declared_fits_in task.accesses.items span is.0.0.declared
+fits_send p task (op.Post how.Send span whom selected comm (Some status)) is = absurd is.0
+fits_send p task (op.Post how.Ssend span whom selected comm None) is = λ sends. declared_fits_in task.accesses.items span is.0.0.declared
+fits_send p task (op.Post how.Ssend span whom selected comm (Some status)) is = absurd is.0
+fits_send p task (op.Post how.Recv span whom selected comm status) is = λ sends. absurd (true≢false sends)
+fits_send p task (op.Post how.Isend span whom selected comm None) is = λ sends. declared_fits_in task.accesses.items span is.0.0.declared
+fits_send p task (op.Post how.Isend span whom selected comm (Some status)) is = absurd is.0
+fits_send p task (op.Post how.Issend span whom selected comm None) is = λ sends. declared_fits_in task.accesses.items span is.0.0.declared
+fits_send p task (op.Post how.Issend span whom selected comm (Some status)) is = absurd is.0
+fits_send p task (op.Post how.Irecv span whom selected comm status) is = λ sends. absurd (true≢false sends)
+fits_send p task (op.Await later handles status) is = tt
+
+pub record_sends : (p q : Program) (t : ℕ) (def task : TaskDef) (ordered : List Access) (count k : ℕ) (operation : Op) → WellFormed p → p ≡ q
+  → slice_get p.tasks.items t ≡ Some def → slice_get q.tasks.items t ≡ Some task → ordered ≡ regions task.accesses.items
+  → count ≡ declared_cells task → slice_get def.body.items k ≡ Some operation → FitsSend ordered count operation
+record_sends p q t def task ordered count k operation well same is_def is_task order cells is_operation =
+    let one = one_task p q t def task same is_def is_task in
+    let is = subst (IsOperation p def) (get_or_from_slice_get def.body.items k operation operation is_operation)
+        (All-get_or (IsOperation p def) def.body.items k operation (slice_get_within def.body.items k operation is_operation) (task_is p t def well is_def).body) in
+    let order_def : ordered ≡ regions def.accesses.items = order ∙ ap (λ (d : TaskDef). regions d.accesses.items) (sym one) in
+    let count_def : count ≡ cell_total def.accesses.items = cells ∙ ap declared_cells (sym one) in
+    rw (order_def, count_def) (fits_send p def operation is)
+
+sent_is : (task : TaskDef) (ordered : List Access) (copy : List ℤ) (operation : Op) → ordered ≡ regions task.accesses.items
+  → sent_in ordered copy operation ≡ packed_by task (Some operation) copy
+sent_is task ordered copy (op.Compute kind dst left right value step) order = refl
+sent_is task ordered copy (op.Post kind span whom selected comm status) order =
+    ap (λ (cells : List ℤ). if is_receive kind then [] else cells) (source_is task ordered copy (Some span) order)
+sent_is task ordered copy (op.Await later handles status) order = refl
+
+pub packed_is : (held : Record) (d task : TaskDef) (ordered : List Access) (k : ℕ) (operation : Op) (cells : List ℤ) → held.phase ≡ phase.At k → def held ≡ d → d ≡ task
+  → ordered ≡ regions task.accesses.items → slice_get d.body.items k ≡ Some operation → cells ≡ sent_in ordered held.copy operation
+  → cells ≡ packed_next (def held) held.phase held.copy
+unfolding packed
+packed_is held d task ordered k operation cells is_at is_def one order is_operation is_cells =
+    rw (is_at, is_def, is_operation) (is_cells ∙ sent_is d ordered held.copy operation (order ∙ ap (λ (t : TaskDef). regions t.accesses.items) (sym one)))

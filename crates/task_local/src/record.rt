@@ -10,7 +10,7 @@ ghost use Rattle.task_local.specs.Standing.{def, at_phase, moved_on, packed_next
 
 use crate::compute::{run_from, sent_cells};
 use crate::regions::{cell_total_of, load_regions, ordered_regions, put_cells, save_regions};
-use crate::standing::{At, at_phase_of, longest_destination, task_def};
+use crate::standing::{At, at_phase_of, longest_destination, operation, task_def};
 use rt_base::{Access, Cells, Phase, Program, Span, TaskNo};
 use std::alloc::{AllocError, Global};
 use std::marker::Model;
@@ -149,11 +149,15 @@ impl TaskRec {
     {
         let def = task_def(prog, self.task);
         match self.phase {
-            Phase::At(k) => {
-                let sent = sent_cells(&self.ordered, &self.copy, &def.body.as_slice()[k as usize]);
-                Ok(Cells::from_vec(sent.to_vec(alloc)?))
-            }
+            Phase::At(k) => listed(alloc, sent_cells(&self.ordered, &self.copy, operation(def, k))),
             Phase::Waiting | Phase::In(_) | Phase::Ended | Phase::Returned | Phase::Released => Ok(Cells::empty(alloc)),
         }
     }
+}
+
+// These cells as an owned list.
+fn listed(alloc: Global, cells: &[i64]) -> Result<Cells, AllocError>
+    ensures { IfOk result (λ found. found.items ≡ cells.now) }
+{
+    Ok(Cells::from_vec(cells.to_vec(alloc)?))
 }

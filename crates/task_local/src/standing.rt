@@ -34,6 +34,14 @@ pub(crate) fn task_def(prog: &Program, task: TaskNo) -> &TaskDef
     &prog.tasks.as_slice()[task.0 as usize]
 }
 
+// The operation of this number.
+pub(crate) fn operation(def: &TaskDef, k: u32) -> &Op
+    requires { k < length def.now.body.items }
+    ensures { slice_get def.now.body.items k ≡ Some result.now }
+{
+    &def.body.as_slice()[k as usize]
+}
+
 // How a task in this phase stands.
 pub(crate) fn at_phase_of(def: &TaskDef, phase: Phase) -> At
     requires { IsPhaseOf def.now phase }
@@ -41,7 +49,7 @@ pub(crate) fn at_phase_of(def: &TaskDef, phase: Phase) -> At
 {
     match phase {
         Phase::Waiting => At::Fresh,
-        Phase::At(k) => at_operation_of(&def.body.as_slice()[k as usize], k),
+        Phase::At(k) => at_operation_of(operation(def, k), k),
         Phase::In(k) => At::In(k),
         Phase::Ended => At::Ended,
         Phase::Returned => At::Returned,
