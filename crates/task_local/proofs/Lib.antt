@@ -3,3 +3,4 @@ pub mod Order
 pub mod Copies
 pub mod Programs
 pub mod Kernels
+pub mod Stands

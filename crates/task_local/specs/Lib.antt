@@ -5,3 +5,4 @@ pub mod Packed
 pub mod StandsFor
 pub mod Standing
 pub mod Kept
+pub mod Laws

@@ -2,6 +2,7 @@
 #![tactic(auto)]
 
 mod compute;
+pub mod laws;
 mod record;
 mod regions;
 mod standing;
