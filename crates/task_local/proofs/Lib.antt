@@ -4,3 +4,4 @@ pub mod Copies
 pub mod Programs
 pub mod Kernels
 pub mod Stands
+pub mod Samples

@@ -6,6 +6,8 @@ pub mod laws;
 mod record;
 mod regions;
 mod standing;
+#[cfg(test)]
+mod tests;
 
 pub use record::TaskRec;
 pub use standing::At;
