@@ -1,16 +1,12 @@
 -- Reads from a list in memory, and reads into the front of a buffer.
-use Rattle.std.proofs.Common.{◌≡◌, ℕ, zero, suc, ◌+◌, ◌<◌, ◌≤◌, min, List, [], ◌∷◌, ◌++◌, length, take, drop, Option, Some, None, refl, sym, ap, ◌∙◌, arith}
+use Rattle.std.proofs.Common.{◌≡◌, ℕ, zero, suc, ◌+◌, ◌<◌, min, List, ◌++◌, length, take, drop, Option, Some, sym, ap, ◌∙◌, arith}
 use Rattle.std.proofs.lemmas.Grind.{common_steps}
+use Rattle.std.proofs.lemmas.List.{nil_from_length}
 use Rattle.std.proofs.lemmas.List.{drop-drop, take-append-drop, take-append-le}
 use Rattle.rt_base.specs.declared.outside.Got.{Got}
 use Rattle.rt_base.specs.declared.outside.Got.TheVariants.{Bytes, End, Failed}
 use Rattle.rt_base.specs.Outside.{Reads}
 use Rattle.rt_base.specs.InMemory.{got_of}
-
--- a list that has no length is empty
-is_empty : (xs : List ℕ) → length xs ≡ 0 → xs ≡ []
-is_empty [] e = refl
-is_empty (x ∷ xs) e = absurd (grind (arith, common_steps))
 
 -- a read that gives a byte says how many
 got_of-some : (n : ℕ) → 0 < n → got_of n ≡ Bytes n
@@ -27,7 +23,7 @@ reads_least : (old buf : List ℕ) (n : ℕ) → 0 < length buf → n ≡ min (l
     → Reads (Some old) (Some (drop n old)) (got_of n) buf
 reads_least old buf zero room least copied =
     let none : length old ≡ 0 = omega arith in
-    (is_empty old none, grind (arith, common_steps))
+    (nil_from_length old none, grind (arith, common_steps))
 reads_least old buf (suc n) room least copied =
     let some : 0 < suc n = omega arith in rw (got_of-some (suc n) some) (reads_some old buf (suc n) some least copied)
 

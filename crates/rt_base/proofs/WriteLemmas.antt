@@ -1,6 +1,7 @@
 -- A buffer on its way out: what was appended so far, and what is left.
-use Rattle.std.proofs.Common.{◌≡◌, ℕ, ◌+◌, ◌<◌, ◌≤◌, List, [], ◌∷◌, ◌++◌, length, take, drop, Option, Some, None, refl, sym, ap, ◌∙◌, append_assoc, arith}
+use Rattle.std.proofs.Common.{◌≡◌, ℕ, ◌+◌, List, [], ◌++◌, length, take, drop, Option, Some, None, ap, ◌∙◌, append_assoc, arith}
 use Rattle.std.proofs.lemmas.Grind.{common_steps}
+use Rattle.std.proofs.lemmas.List.{nil_from_length}
 use Rattle.std.proofs.lemmas.List.{take-append-drop}
 use Rattle.std.proofs.Math.Seq.{take-append_seam}
 use Rattle.std.specs.Io.KnownBytes.{Appends, Keeps}
@@ -11,11 +12,6 @@ pub record Sent (old new : Option (List ℕ)) (buf left : List ℕ) : Type 0 whe
   pub front : List ℕ
   pub parts : buf ≡ front ++ left
   pub appended : Appends old new front
-
--- a list that has no length is empty
-is_empty : (xs : List ℕ) → length xs ≡ 0 → xs ≡ []
-is_empty [] e = refl
-is_empty (x ∷ xs) e = absurd (grind (arith, common_steps))
 
 -- nothing was appended where nothing changed
 appends_none : (old : Option (List ℕ)) → Appends old old []
@@ -70,5 +66,5 @@ sent_front old new buf left sent = (
 -- where nothing is left the whole buffer was appended
 pub sent_whole : (old new : Option (List ℕ)) (buf left : List ℕ) → Sent old new buf left → length left ≡ 0 → Appends old new buf
 sent_whole old new buf left sent none =
-    let whole : buf ≡ sent.front = sent.parts ∙ (ap (λ back. sent.front ++ back) (is_empty left none) ∙ grind (arith, common_steps)) in
+    let whole : buf ≡ sent.front = sent.parts ∙ (ap (λ back. sent.front ++ back) (nil_from_length left none) ∙ grind (arith, common_steps)) in
     rw whole sent.appended

@@ -1,5 +1,5 @@
 -- What the sources and sinks in memory are seen as, and which calls of a fake fail.
-use Rattle.std.specs.Prelude.{◌≡◌, ℕ, ◌-◌, ◌==◌, List, ◌++◌, length, take, Contains, if◌then◌else◌}
+use Rattle.std.specs.Prelude.{ℕ, ◌-◌, ◌==◌, List, ◌++◌, length, take, Contains, if◌then◌else◌}
 use Rattle.rt_base.specs.declared.outside.Got.{Got}
 use Rattle.rt_base.specs.declared.outside.Got.TheVariants as got
 use Rattle.rt_base.specs.Outside.{counted}

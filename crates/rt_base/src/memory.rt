@@ -1,6 +1,5 @@
 //! Sources and sinks in memory, plain ones and fakes that fail where they are told to.
-ghost use Rattle.std.specs.Prelude.{◌≡◌, ◌≢◌, ◌↔◌, ◌+◌, ◌-◌, ◌<◌, ◌≤◌, ℕ, List, [], ◌++◌, length, take, drop, min, Some, IsTrue, IfOk, Contains, vec_len, vec_capacity};
-ghost use Rattle.std.specs.Prelude.{Option};
+ghost use Rattle.std.specs.Prelude.{◌≡◌, ◌≢◌, ◌↔◌, ◌+◌, ◌-◌, ◌<◌, ◌≤◌, ℕ, List, [], length, take, drop, min, Some, IsTrue, IfOk, Contains, vec_len, vec_capacity};
 ghost use Rattle.rt_base.specs.Outside.{Reads, HasReadCause, Writes, HasWriteCause, counted};
 ghost use Rattle.rt_base.specs.InMemory.{got_of, filled_by, faulted, IsFailing, after_call};
 
