@@ -64,10 +64,11 @@ null_status = record { source = negsuc 1; tag = negsuc 0; count = 0; error = 0 }
 -- the status of a receive that took this message (MPI 4.0, 3.2.5)
 abbrev pub message_status : Span → Message → Status
 message_status span message = record {
-    source = pos message.source;
-    tag = pos message.tag;
-    count = min (span_len span) (length message.cells);
-    error = if nat_lt (span_len span) (length message.cells) then 1 else 0 }
+  source = pos message.source;
+  tag = pos message.tag;
+  count = min (span_len span) (length message.cells);
+  error = if nat_lt (span_len span) (length message.cells) then 1 else 0;
+}
 
 abbrev pub receive_status : Span → Peer → Option Match → Status
 receive_status span whom None = if is_null whom then null_status else empty_status

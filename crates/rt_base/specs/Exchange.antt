@@ -137,9 +137,10 @@ mailboxes_after exchange Nowhere = exchange.mailboxes
 -- the exchange after a request posted this
 abbrev pub exchange_after : Exchange → ReqNo → Posting → Exchange
 exchange_after exchange req posting = record {
-    posted = exchange.posted ++ req ∷ [];
-    mailboxes = mailboxes_after exchange posting;
-    matches = exchange.matches ++ option_to_list (match_made exchange posting) }
+  posted = exchange.posted ++ req ∷ [];
+  mailboxes = mailboxes_after exchange posting;
+  matches = exchange.matches ++ option_to_list (match_made exchange posting);
+}
 
 -- the other request of the match that a posting makes
 abbrev pub other_of : Posting → Match → ReqNo

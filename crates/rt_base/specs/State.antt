@@ -33,11 +33,12 @@ waiting_task = record { phase = phase.Waiting; copy = []; named = []; bound = []
 -- all cells are 0, all tasks are waiting, and the rest is empty
 abbrev pub opening : Program → State
 opening program = record {
-    memory = replicate (memory_len program) (pos 0);
-    tasks = replicate (length program.tasks.items) waiting_task;
-    exchange = silent program.ranks;
-    notices = [];
-    statuses = [] }
+  memory = replicate (memory_len program) (pos 0);
+  tasks = replicate (length program.tasks.items) waiting_task;
+  exchange = silent program.ranks;
+  notices = [];
+  statuses = [];
+}
 
 -- where the task stands, if there is such a task
 abbrev pub phase_of : State → ℕ → Option Phase
