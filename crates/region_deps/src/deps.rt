@@ -1,6 +1,6 @@
 //! The dependency graph of a program.
 
-ghost use Rattle.std.specs.Prelude.{◌≡◌, ◌<◌, ℕ, length, true, false, IfOk, IfSome, IfNone, replicate, slice_get, slice_set, Some};
+ghost use Rattle.std.specs.Prelude.{◌≡◌, ◌<◌, ◌↔◌, ℕ, IsTrue, length, true, false, IfOk, IfSome, IfNone, replicate, slice_get, slice_set, Some};
 ghost use Rattle.rt_base.specs.Precedes.{MayStart};
 ghost use Rattle.rt_base.specs.WellFormed.{WellFormed};
 ghost use Rattle.region_deps.specs.Readiness.{Readiness, IsWhole, IsStartable, untouched};
@@ -8,7 +8,7 @@ ghost use Rattle.region_deps.specs.Readiness.{Readiness, IsWhole, IsStartable, u
 #[cfg(test)]
 mod tests;
 
-use crate::order::{Order, first_offered, orders};
+use crate::order::{Order, first_offered, is_free, orders};
 use rt_base::{Program, TaskNo};
 use std::alloc::{AllocError, Global};
 use std::marker::Model;
@@ -73,6 +73,15 @@ impl Deps {
         let task = first_offered(&self.orders, &self.handed, &self.released)?;
         self.handed[task] = true;
         Some(TaskNo(task as u32))
+    }
+
+    /// Whether the task may start, also where it was handed out. Looks at all earlier tasks, and at each pair of accesses.
+    pub fn may_start(&self, task: TaskNo) -> bool
+        requires known { task.0 < length self.now.program.tasks.items }
+        ensures { IsTrue result ↔ MayStart self.now.program self.now.gone task.0 }
+    {
+        let later = &self.orders[task.0 as usize];
+        is_free(&self.orders, &self.released, task.0 as usize, later)
     }
 
     /// Notes that the task has let go of its accesses. Takes no memory, and looks at nothing else.

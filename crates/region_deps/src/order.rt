@@ -89,7 +89,7 @@ fn shares_regions(earlier: &[Access], later: &[Access]) -> bool
 }
 
 /// Whether the task has to wait for none of the earlier ones. Looks at all of them and at all their accesses.
-fn is_free(tasks: &[Order], released: &[bool], task: usize, later: &Order) -> bool
+pub fn is_free(tasks: &[Order], released: &[bool], task: usize, later: &Order) -> bool
     requires known { task < length tasks.now }
     requires whole { length released.now ≡ length tasks.now }
     ensures { IsTrue result ↔ IsFree tasks.now released.now task later.now }
