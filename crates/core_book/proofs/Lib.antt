@@ -6,3 +6,4 @@ pub mod After
 pub mod Stops
 pub mod Opening
 pub mod Changes
+pub mod BookLemmas

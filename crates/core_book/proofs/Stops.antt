@@ -1,7 +1,7 @@
 -- Where a task stands after its local operations: what it has posted, and how many moves it has left.
-use Rattle.std.proofs.Common.{◌≡◌, ◌≢◌, ℕ, zero, suc, ◌+◌, ◌-◌, ◌*◌, ◌<◌, ◌≤◌, Bool, true, false, List, [], ◌∷◌, ◌++◌, length, take, drop, slice_get, Some, None, refl, sym, ap, ◌∙◌, append_assoc, arith, rules}
+use Rattle.std.proofs.Common.{◌≡◌, ◌≢◌, ℕ, zero, suc, ◌+◌, ◌-◌, ◌*◌, ◌<◌, ◌≤◌, Bool, true, false, List, [], ◌∷◌, ◌++◌, length, take, drop, slice_get, get_or, drop-cons, add-one, Some, None, refl, sym, ap, ◌∙◌, append_assoc, arith, rules}
 use Rattle.std.specs.Prelude.{count_by}
-use Rattle.std.proofs.Math.Seq.{take-append_seam, take-length}
+use Rattle.std.proofs.Math.Seq.{take-append_seam, take-length, drop-nil}
 use Rattle.std.proofs.lemmas.List.{take-append-drop, length-append, length-take}
 use Rattle.std.proofs.lemmas.List.Sums.{sum_by-append}
 use Rattle.rt_base.specs.declared.data.Phase.{Phase}
@@ -12,7 +12,7 @@ use Rattle.rt_base.specs.declared.data.TaskDef.{TaskDef}
 use Rattle.rt_base.specs.Operations.{is_posting, postings, nth_at}
 use Rattle.rt_base.specs.State.{is_released}
 use Rattle.task_local.specs.Local.{stop_at, stop}
-use Rattle.core_book.specs.Kept.{moves_left, posted_by_phase}
+use Rattle.core_book.specs.Kept.{moves_left, posted_by_phase, is_local}
 
 append_nil : {X : Type 0} (xs : List X) → xs ++ [] ≡ xs
 append_nil [] = refl
@@ -56,3 +56,41 @@ stop_held k [] = refl
 stop_held k (op.Compute kind dst left right value step ∷ ops) = stop_held (k + 1) ops
 stop_held k (op.Post how span peer tag comm status ∷ ops) = refl
 stop_held k (op.Await later handles status ∷ ops) = refl
+
+-- a local operation is passed, another is where the task stops
+pub stop_goes_on : (k : ℕ) (x : Op) (ops : List Op) → is_local x ≡ true → stop_at k (x ∷ ops) ≡ stop_at (k + 1) ops
+stop_goes_on k (op.Compute kind dst left right value step) ops local = refl
+stop_goes_on k (op.Post how span peer tag comm status) ops local = absurd (cc)
+stop_goes_on k (op.Await later handles status) ops local = absurd (cc)
+
+pub stop_here : (k : ℕ) (x : Op) (ops : List Op) → is_local x ≡ false → stop_at k (x ∷ ops) ≡ phase.At k
+stop_here k (op.Compute kind dst left right value step) ops other = absurd (cc)
+stop_here k (op.Post how span peer tag comm status) ops other = refl
+stop_here k (op.Await later handles status) ops other = refl
+
+-- the operations from a place on
+pub drop_at : (ops : List Op) (k : ℕ) (x : Op) → k < length ops → x ≡ get_or ops k x → drop k ops ≡ x ∷ drop (k + 1) ops
+drop_at ops k x within here = drop-cons ops k x within ∙ ap (λ y. y ∷ drop (suc k) ops) (sym here) ∙ ap (λ n. x ∷ drop n ops) (sym (add-one k))
+
+pub drop_end : (ops : List Op) (k : ℕ) → length ops ≤ k → drop k ops ≡ []
+drop_end [] k past = drop-nil k
+drop_end (x ∷ ops) zero past = absurd (omega arith)
+drop_end (x ∷ ops) (suc k) past = drop_end ops k (omega arith)
+
+-- the loop of the code
+pub stop_passed : (def : TaskDef) (k at : ℕ) (x : Op) → stop_at at (drop at def.body.items) ≡ stop def k → at < length def.body.items → x ≡ get_or def.body.items at x → is_local x ≡ true
+    → (stop_at (at + 1) (drop (at + 1) def.body.items) ≡ stop def k) × (at + 1 ≤ length def.body.items)
+stop_passed def k at x before within here local =
+    (sym (stop_goes_on at x (drop (at + 1) def.body.items) local) ∙ ap (stop_at at) (sym (drop_at def.body.items at x within here)) ∙ before, omega arith)
+
+pub stop_found : (def : TaskDef) (k at : ℕ) (x : Op) → stop_at at (drop at def.body.items) ≡ stop def k → at < length def.body.items → x ≡ get_or def.body.items at x → is_local x ≡ false
+    → phase.At at ≡ stop def k
+stop_found def k at x before within here other =
+    sym (stop_here at x (drop (at + 1) def.body.items) other) ∙ ap (stop_at at) (sym (drop_at def.body.items at x within here)) ∙ before
+
+pub stop_ended : (def : TaskDef) (k at : ℕ) → stop_at at (drop at def.body.items) ≡ stop def k → length def.body.items ≤ at → phase.Ended ≡ stop def k
+stop_ended def k at before past = sym (ap (stop_at at) (drop_end def.body.items at past)) ∙ before
+
+pub stop_begins : (def : TaskDef) (k : ℕ) → stop_at k (drop k def.body.items) ≡ stop def k
+unfolding stop
+stop_begins def k = refl

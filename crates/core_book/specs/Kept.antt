@@ -1,8 +1,10 @@
 -- How a book keeps the state after its history. No public clause cites this module.
-use Rattle.std.specs.Prelude.{◌≡◌, ◌≢◌, ℕ, ◌+◌, ◌-◌, ◌*◌, ◌<◌, ◌≤◌, Bool, true, false, List, [], ◌∷◌, map, length, slice_get, Some, ℤ}
+use Rattle.std.specs.Prelude.{◌≡◌, ◌≢◌, ℕ, ◌+◌, ◌-◌, ◌*◌, ◌<◌, ◌≤◌, Bool, true, false, List, [], ◌∷◌, map, length, slice_get, Some, ℤ, sum_by}
 use Rattle.rt_base.specs.declared.data.ReqNo.{ReqNo}
 use Rattle.rt_base.specs.declared.data.Phase.{Phase}
 use Rattle.rt_base.specs.declared.data.Phase.TheVariants as phase
+use Rattle.rt_base.specs.declared.data.Op.{Op}
+use Rattle.rt_base.specs.declared.data.Op.TheVariants as op
 use Rattle.rt_base.specs.declared.data.Status.{Status}
 use Rattle.rt_base.specs.declared.data.Entry.{Entry}
 use Rattle.rt_base.specs.declared.data.TaskDef.{TaskDef}
@@ -14,6 +16,7 @@ use Rattle.rt_base.specs.Exchange.{Exchange}
 use Rattle.rt_base.specs.Completion.{is_posted}
 use Rattle.rt_base.specs.State.{State, Task, let_go_at}
 use Rattle.rt_base.specs.WellFormed.{WellFormed}
+use Rattle.region_deps.specs.Readiness.{Readiness, IsWhole}
 use Rattle.core_book.specs.Legal.{IsLegal, final}
 
 -- at most how many moves a task that stands there has left, if its body has so many operations
@@ -64,3 +67,20 @@ pub record IsKept (program : Program) (workers : ℕ) (entries : List Entry) (st
   pub entry_room : length entries + all_left program.tasks.items phases ≤ entry_places
   pub status_room : length statuses + all_left program.tasks.items phases ≤ status_places
   pub notice_room : length notices + all_left program.tasks.items phases ≤ notice_places
+
+-- the operation is a local one
+abbrev pub is_local : Op → Bool
+is_local (op.Compute kind dst left right value step) = true
+is_local (op.Post how span peer tag comm status) = false
+is_local (op.Await later handles status) = false
+
+-- at most how many moves tasks make that wait
+abbrev pub most_moves : List TaskDef → ℕ
+most_moves defs = sum_by (λ (def : TaskDef). 2 * length def.body.items + 3) defs
+
+-- a book: its fields are the state after its history, and its dependency graph is that of its program
+pub record IsBook (program : Program) (workers : ℕ) (ready : Readiness) (memory : List ℤ) (phases : List Phase) (exchange : Exchange) (notices : List ReqNo)
+    (entries : List Entry) (statuses : List Status) (entry_places status_places notice_places : ℕ) : Type 0 where
+  pub kept : IsKept program workers entries statuses memory phases exchange notices ready.gone ready.handed entry_places status_places notice_places
+  pub of_program : ready.program ≡ program
+  pub whole : IsWhole ready

@@ -1,8 +1,10 @@
 -- What contracts see of a book, and what each of its moves does.
-use Rattle.std.specs.Prelude.{◌≡◌, ℕ, List, [], ◌∷◌, ◌++◌, Bool}
+use Rattle.std.specs.Prelude.{◌≡◌, ℕ, List, [], ◌∷◌, ◌++◌, Bool, false, replicate, length, slice_get, Some}
 use Rattle.rt_base.specs.declared.data.Status.{Status}
 use Rattle.rt_base.specs.declared.data.Entry.{Entry}
 use Rattle.rt_base.specs.declared.data.Program.{Program}
+use Rattle.rt_base.specs.Precedes.{MayStart}
+use Rattle.rt_base.specs.State.{let_go}
 use Rattle.task_local.specs.StandsFor.{Record, StandsFor}
 use Rattle.core_book.specs.Machine.{move}
 use Rattle.core_book.specs.Legal.{final}
@@ -14,6 +16,15 @@ pub record Ledger : Type 0 where
   pub history : List Entry
   pub statuses : List Status
   pub handed : List Bool
+
+-- a new book: nothing has happened, and no task was handed out
+abbrev pub new_ledger : Program → ℕ → Ledger
+new_ledger program workers = record {
+    program = program; workers = workers; history = []; statuses = []; handed = replicate (length program.tasks.items) false }
+
+-- a task that may start was not handed out
+abbrev pub IsReady : Ledger → ℕ → Type 0
+IsReady book t = (slice_get book.handed t ≡ Some false) × MayStart book.program (let_go (final book.program book.history).tasks) t
 
 -- the book has made the move of the record's task, and the record stands for the task in the state after it
 pub record MakesMove (old new : Ledger) (before after : Record) : Type 0 where

@@ -1,0 +1,55 @@
+//! Where a program's tasks are, and where a task stands after its local operations.
+
+ghost use Rattle.std.specs.Prelude.{◌≡◌, ◌≤◌, ◌<◌, ◌^◌, length, slice_get, Some};
+ghost use Rattle.task_local.specs.Local.{stop};
+ghost use Rattle.task_local.specs.Standing.{phase_before};
+ghost use Rattle.core_book.specs.Kept.{is_local};
+
+use rt_base::{Op, Phase, Program, TaskDef, TaskNo};
+
+// The task of this number.
+pub(crate) fn task_of(prog: &Program, task: TaskNo) -> &TaskDef
+    requires { task.0 < length prog.now.tasks.items }
+    ensures { slice_get prog.now.tasks.items task.0 ≡ Some result.now }
+{
+    &prog.tasks.as_slice()[task.0 as usize]
+}
+
+// The phase of a task that has made the operations before this one.
+pub(crate) fn phase_before(def: &TaskDef, k: u32) -> Phase
+    ensures { result ≡ phase_before def.now k }
+{
+    if (k as usize) < def.body.len() {
+        Phase::At(k)
+    } else {
+        Phase::Ended
+    }
+}
+
+// Whether the operation is a local one.
+fn is_local(op: &Op) -> bool
+    ensures { result ≡ is_local op.now }
+{
+    match op {
+        Op::Compute { .. } => true,
+        Op::Post { .. } => false,
+        Op::Await { .. } => false,
+    }
+}
+
+// Where a task stands after the local operations from operation k on. Looks at each of them.
+pub(crate) fn stop(def: &TaskDef, k: u32) -> Phase
+    requires within { k ≤ length def.now.body.items }
+    requires few { length def.now.body.items < 2 ^ 32 }
+    ensures { result ≡ stop def.now k }
+{
+    let body = def.body.as_slice();
+    let mut at = k;
+    while (at as usize) < body.len() {
+        if !is_local(&body[at as usize]) {
+            return Phase::At(at);
+        }
+        at += 1;
+    }
+    Phase::Ended
+}
