@@ -1,8 +1,8 @@
 -- Regions rise by their first cells, and are the only such order of the filled accesses.
-use Rattle.std.proofs.Common.{◌≡◌, ◌≢◌, ℕ, zero, suc, ◌+◌, ◌-◌, ◌*◌, ◌^◌, ◌<◌, ◌≤◌, Bool, true, false, not, cond, ◌==◌, List, [], ◌∷◌, length, get_or, All, AllPairs, filter, sum_by, IsPermutation, if◌then◌else◌, sym, ap, ap₂, ◌∙◌, refl, subst, inl, inr, ⊎_elim, ◌⊎◌, arith}
+use Rattle.std.proofs.Common.{◌≡◌, ◌≢◌, ℕ, zero, suc, ◌+◌, ◌-◌, ◌^◌, ◌<◌, ◌≤◌, Bool, true, false, not, cond, ◌==◌, List, [], ◌∷◌, get_or, All, AllPairs, filter, sum_by, IsPermutation, if◌then◌else◌, sym, ap, ap₂, ◌∙◌, refl, inl, inr, ⊎_elim, ◌⊎◌, arith}
 use Rattle.std.proofs.lemmas.Bool.{cases_lt}
 use Rattle.std.proofs.lemmas.Bool.Decides.{nat_tests}
-use Rattle.std.proofs.lemmas.List.Elements.{All-nil, All-cons, All-head, All-tail, All-weaker, All-from_get_or}
+use Rattle.std.proofs.lemmas.List.Elements.{All-nil, All-cons, All-head, All-tail, All-weaker}
 use Rattle.std.proofs.lemmas.List.Sums.{sum_by-cons, sum_by-le}
 use Rattle.std.proofs.lemmas.List.Sorted.{All-permutation, sum_by-IsPermutation}
 use Rattle.std.specs.List.Sorted.{IsNonDecreasingBy}
@@ -42,29 +42,29 @@ abbrev After : Access → Access → Type 0
 After access other = first_cell access < first_cell other
 
 Rises-either : (access next : Access) (others placed : List Access) (first : Bool) → (first ≡ true → After access next)
-  → (first ≡ false → All (After next) placed) → Rises (next ∷ others) → Rises placed
-  → Rises (if first then access ∷ (next ∷ others) else next ∷ placed)
+    → (first ≡ false → All (After next) placed) → Rises (next ∷ others) → Rises placed
+    → Rises (if first then access ∷ (next ∷ others) else next ∷ placed)
 Rises-either access next others placed true below later rises placed_rises =
     let first : After access next = below refl in
     (All-cons (After access) next others first (All-weaker (After next) (After access) (λ other lt. omega arith) others rises.0), rises)
 Rises-either access next others placed false below later rises placed_rises = (later refl, placed_rises)
 
 Rises-placed : (access : Access) (others : List Access) → IsLow access → All IsLow others
-  → All (λ (other : Access). first_cell access ≢ first_cell other) others → Rises others → Rises (placed_in_order access others)
+    → All (λ (other : Access). first_cell access ≢ first_cell other) others → Rises others → Rises (placed_in_order access others)
 Rises-placed access [] low all_low apart rises = (All-nil (After access), tt)
 Rises-placed access (next ∷ others) low all_low apart rises =
     let next_low = All-head IsLow next others all_low in
     let differs : first_cell access ≢ first_cell next = All-head (λ (other : Access). first_cell access ≢ first_cell other) next others apart in
     let rest = Rises-placed access others low (All-tail IsLow next others all_low)
-        (All-tail (λ (other : Access). first_cell access ≢ first_cell other) next others apart) rises.1 in
+    (All-tail (λ (other : Access). first_cell access ≢ first_cell other) next others apart) rises.1 in
     Rises-either access next others _ (begins_before access next) (λ e. before_true access next low next_low e)
-        (λ e. let le : first_cell next ≤ first_cell access = before_false access next low next_low e in
-            All-permutation (After next) _ _ (IsPermutation-placed_in_order access others) (All-cons (After next) access others (omega arith) rises.0))
-        rises rest
+    (λ e. let le : first_cell next ≤ first_cell access = before_false access next low next_low e in
+    All-permutation (After next) _ _ (IsPermutation-placed_in_order access others) (All-cons (After next) access others (omega arith) rises.0))
+    rises rest
 
 -- filled regions that share no cell begin apart
 apart_begin : (one other : Access) → IsLow one → IsLow other → is_filled one ≡ true → is_filled other ≡ true
-  → ¬ Overlaps one.span other.span → first_cell one ≢ first_cell other
+    → ¬ Overlaps one.span other.span → first_cell one ≢ first_cell other
 apart_begin one other low_one low_other filled_one filled_other apart same =
     let array : one.span.array ≡ other.span.array = omega arith in
     let from : one.span.from ≡ other.span.from = omega arith in
@@ -73,7 +73,7 @@ apart_begin one other low_one low_other filled_one filled_other apart same =
     apart (array, (one.span.from, (omega arith, omega arith), (omega arith, omega arith)))
 
 region_rises : (access : Access) (ordered : List Access) (empty : Bool) → (empty ≡ false → Rises (placed_in_order access ordered))
-  → Rises ordered → Rises (if empty then ordered else placed_in_order access ordered)
+    → Rises ordered → Rises (if empty then ordered else placed_in_order access ordered)
 region_rises access ordered true placed rises = rises
 region_rises access ordered false placed rises = placed refl
 
@@ -98,14 +98,14 @@ Rises-regions (access ∷ accesses) low apart =
     let filled = regions_filled accesses in
     let low_rest = All-regions IsLowFilled accesses (All-tail IsLowFilled access accesses low) in
     let apart_rest = All-regions (λ (other : Access). ¬ Overlaps access.span other.span) accesses
-        (AllPairs-head (λ (one other : Access). ¬ Overlaps one.span other.span) access accesses apart) in
+    (AllPairs-head (λ (one other : Access). ¬ Overlaps one.span other.span) access accesses apart) in
     region_rises access (regions accesses) (span_len access.span == 0)
-        (λ e. let here : is_filled access ≡ true = ap not e in
-            let low_here = All-head IsLowFilled access accesses low here in
-            Rises-placed access (regions accesses) low_here (λ k d within. low_rest k d within (filled k d within))
-                (λ k d within. apart_begin access (get_or (regions accesses) k d) low_here (low_rest k d within (filled k d within)) here (filled k d within) (apart_rest k d within))
-                rest)
-        rest
+    (λ e. let here : is_filled access ≡ true = ap not e in
+    let low_here = All-head IsLowFilled access accesses low here in
+    Rises-placed access (regions accesses) low_here (λ k d within. low_rest k d within (filled k d within))
+    (λ k d within. apart_begin access (get_or (regions accesses) k d) low_here (low_rest k d within (filled k d within)) here (filled k d within) (apart_rest k d within))
+    rest)
+    rest
 
 -- ---- and no other list of the same accesses has them in this order
 
@@ -120,11 +120,11 @@ weigh-own : (key : ℕ) (weight : Access → ℕ) (access : Access) → first_ce
 weigh-own key weight access own = grind (arith, nat_tests)
 
 weigh-others : (key : ℕ) (weight : Access → ℕ) (accesses : List Access) → All (λ (access : Access). first_cell access ≢ key) accesses
-  → sum_by (weigh key weight) accesses ≡ 0
+    → sum_by (weigh key weight) accesses ≡ 0
 weigh-others key weight accesses others =
     let none = sum_by-le (weigh key weight) 0 accesses
-        (All-weaker (λ (access : Access). first_cell access ≢ key) (λ (access : Access). weigh key weight access ≤ 0)
-            (λ access other. let z = weigh-other key weight access other in omega arith) accesses others) in
+    (All-weaker (λ (access : Access). first_cell access ≢ key) (λ (access : Access). weigh key weight access ≤ 0)
+    (λ access other. let z = weigh-other key weight access other in omega arith) accesses others) in
     omega arith
 
 -- the distance of two numbers, and of two accesses, which is 0 where they are the same
@@ -165,7 +165,7 @@ differs_by-none one other none =
     let froms : one.span.from ≡ other.span.from = omega arith in
     let tos : one.span.to ≡ other.span.to = omega arith in
     same_make (λ m a f t. record { mode = m; span = record { array = a; from = f; to = t } }) one.mode other.mode
-        one.span.array other.span.array one.span.from other.span.from one.span.to other.span.to modes arrays froms tos
+    one.span.array other.span.array one.span.from other.span.from one.span.to other.span.to modes arrays froms tos
 
 -- two lists of the same accesses give the same sums
 abbrev SameSums : List Access → List Access → Type 0
@@ -178,17 +178,22 @@ Climbs (access ∷ others) = All (λ (other : Access). first_cell access ≤ fir
 
 -- no access of a list has a lower first cell than all of another with the same sums
 not_below : (x : Access) (xs : List Access) (y : Access) (ys : List Access) → All (λ (access : Access). first_cell x ≤ first_cell access) xs
-  → SameSums (x ∷ xs) (y ∷ ys) → first_cell x ≤ first_cell y
+    → SameSums (x ∷ xs) (y ∷ ys) → first_cell x ≤ first_cell y
 not_below x xs y ys later same =
     ⊎_elim (λ (le : first_cell x ≤ first_cell y). le)
-        (λ (lt : first_cell y < first_cell x).
-            absurd (omega (arith, same (weigh (first_cell y) (λ access. 1)), sum_by-cons (weigh (first_cell y) (λ access. 1)) x xs,
-                sum_by-cons (weigh (first_cell y) (λ access. 1)) y ys, weigh-own (first_cell y) (λ access. 1) y refl,
-                weigh-other (first_cell y) (λ access. 1) x (λ e. omega arith),
-                weigh-others (first_cell y) (λ access. 1) xs
-                    (All-weaker (λ (access : Access). first_cell x ≤ first_cell access) (λ (access : Access). first_cell access ≢ first_cell y)
-                        (λ access le. λ e. omega arith) xs later))))
-        (cases_le (first_cell x) (first_cell y))
+    (λ (lt : first_cell y < first_cell x).
+    absurd (omega (
+      arith,
+      same (weigh (first_cell y) (λ access. 1)),
+      sum_by-cons (weigh (first_cell y) (λ access. 1)) x xs,
+      sum_by-cons (weigh (first_cell y) (λ access. 1)) y ys,
+      weigh-own (first_cell y) (λ access. 1) y refl,
+      weigh-other (first_cell y) (λ access. 1) x (λ e. omega arith),
+      weigh-others (first_cell y) (λ access. 1) xs
+          (All-weaker (λ (access : Access). first_cell x ≤ first_cell access) (λ (access : Access). first_cell access ≢ first_cell y)
+          (λ access le. λ e. omega arith) xs later),
+    )))
+    (cases_le (first_cell x) (first_cell y))
 
 pub one_order : (one other : List Access) → Rises one → Climbs other → SameSums one other → one ≡ other
 one_order [] [] rises climbs same = refl
@@ -200,23 +205,31 @@ one_order (x ∷ xs) (y ∷ ys) rises climbs same =
     let keys : first_cell y ≡ first_cell x = omega arith in
     let none : sum_by (weigh (first_cell x) (λ access. differs_by access x)) xs ≡ 0 = weigh-others (first_cell x) (λ access. differs_by access x) xs (All-weaker (After x) (λ (access : Access). first_cell access ≢ first_cell x) (λ access lt. λ e. omega arith) xs rises.0) in
     let sums = same (weigh (first_cell x) (λ access. differs_by access x)) in
-    let own : y ≡ x = differs_by-none y x (omega (arith, sums, none, differs_by-itself x,
-        weigh-own (first_cell x) (λ access. differs_by access x) x refl, weigh-own (first_cell x) (λ access. differs_by access x) y keys,
-        sum_by-cons (weigh (first_cell x) (λ access. differs_by access x)) x xs, sum_by-cons (weigh (first_cell x) (λ access. differs_by access x)) y ys)) in
+    let own : y ≡ x = differs_by-none y x (omega (
+      arith,
+      sums,
+      none,
+      differs_by-itself x,
+      weigh-own (first_cell x) (λ access. differs_by access x) x refl,
+      weigh-own (first_cell x) (λ access. differs_by access x) y keys,
+      sum_by-cons (weigh (first_cell x) (λ access. differs_by access x)) x xs,
+      sum_by-cons (weigh (first_cell x) (λ access. differs_by access x)) y ys,
+    )) in
     let rest : xs ≡ ys = one_order xs ys rises.1 climbs.1
-        (λ f. omega (arith, same f, sum_by-cons f x xs, sum_by-cons f y ys, ap f own)) in
+    (λ f. omega (arith, same f, sum_by-cons f x xs, sum_by-cons f y ys, ap f own)) in
     ap₂ (λ (a : Access) (b : List Access). a ∷ b) (sym own) rest
 
 -- a list that a sort left climbs
 Climbs-from_sorted : (accesses : List Access) → IsNonDecreasingBy first_cell accesses → Climbs accesses
 Climbs-from_sorted [] sorted = tt
-Climbs-from_sorted (access ∷ others) sorted =
-    (λ k d within. sorted zero (suc k) d (omega arith) (omega arith),
-    Climbs-from_sorted others (λ i j d le within. sorted (suc i) (suc j) d (omega arith) (omega arith)))
+Climbs-from_sorted (access ∷ others) sorted = (
+  λ k d within. sorted zero (suc k) d (omega arith) (omega arith),
+  Climbs-from_sorted others (λ i j d le within. sorted (suc i) (suc j) d (omega arith) (omega arith)),
+)
 
 -- the filled accesses, sorted by their first cells, are the regions
 pub sorted_is_regions : (accesses ordered : List Access) → All IsLowFilled accesses → AreApart accesses
-  → IsPermutation (filter is_filled accesses) ordered → IsNonDecreasingBy first_cell ordered → ordered ≡ regions accesses
+    → IsPermutation (filter is_filled accesses) ordered → IsNonDecreasingBy first_cell ordered → ordered ≡ regions accesses
 sorted_is_regions accesses ordered low apart moved sorted =
     sym (one_order (regions accesses) ordered (Rises-regions accesses low apart) (Climbs-from_sorted ordered sorted)
-        (λ f. sum_by-IsPermutation f _ _ (IsPermutation-regions accesses) ∙ sym (sum_by-IsPermutation f _ _ moved)))
+    (λ f. sum_by-IsPermutation f _ _ (IsPermutation-regions accesses) ∙ sym (sum_by-IsPermutation f _ _ moved)))

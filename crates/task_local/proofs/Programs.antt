@@ -1,5 +1,5 @@
 -- What a program that may be run gives for a task of it.
-use Rattle.std.proofs.Common.{◌≡◌, ℕ, ◌+◌, ◌-◌, ◌*◌, ◌^◌, ◌<◌, ◌≤◌, Bool, true, false, true≢false, if◌then◌else◌, ℤ, List, [], ◌∷◌, length, get_or, take, drop, length-drop, All, sum, sum_by, slice_get, Option, Some, None, unwrap_or, sym, ap, ◌∙◌, refl, subst, mul_comm, mul-le-mul, arith}
+use Rattle.std.proofs.Common.{◌≡◌, ℕ, ◌+◌, ◌*◌, ◌<◌, ◌≤◌, true, true≢false, if◌then◌else◌, ℤ, List, [], ◌∷◌, length, get_or, drop, length-drop, All, slice_get, Option, Some, None, unwrap_or, sym, ap, ◌∙◌, refl, subst, mul_comm, mul-le-mul, arith}
 use Rattle.std.proofs.lemmas.Nat.{mul-add-lt}
 use Rattle.std.proofs.lemmas.Option.{get_or_from_slice_get, slice_get_within, same_Some}
 use Rattle.std.proofs.lemmas.List.Elements.{All-get_or}
@@ -15,7 +15,7 @@ use Rattle.rt_base.specs.declared.data.TaskDef.{TaskDef}
 use Rattle.rt_base.specs.declared.data.Program.{Program}
 use Rattle.rt_base.specs.Spans.{span_len}
 use Rattle.rt_base.specs.Operations.{is_receive}
-use Rattle.rt_base.specs.Layout.{array_count, array_place, memory_len}
+use Rattle.rt_base.specs.Layout.{array_count, array_place}
 use Rattle.rt_base.specs.WellFormed.{WellFormed, IsTask, IsSpan, IsOperation, IsDeclared, OfSpan, MayRead, region_cells}
 use Rattle.task_local.specs.Regions.{regions, put, spliced}
 use Rattle.task_local.specs.Packed.{packed_by, packed}
@@ -65,8 +65,8 @@ lies_in p rank access well exists span filled =
 pub regions_lie : (p : Program) (task : TaskDef) → WellFormed p → IsTask p task → All (LiesIn p task.rank) (regions task.accesses.items)
 regions_lie p task well is = λ k d within.
     lies_in p task.rank (get_or (regions task.accesses.items) k d) well is.rank
-        (All-regions (λ (access : Access). IsSpan p task.rank access.span) task.accesses.items is.regions k d within)
-        (regions_filled task.accesses.items k d within)
+    (All-regions (λ (access : Access). IsSpan p task.rank access.span) task.accesses.items is.regions k d within)
+    (regions_filled task.accesses.items k d within)
 
 pub filled_low : (p : Program) (task : TaskDef) → WellFormed p → IsTask p task → All IsLowFilled task.accesses.items
 filled_low p task well is = λ k d within filled.
@@ -76,23 +76,24 @@ filled_low p task well is = λ k d within filled.
 -- ---- what a local operation needs
 
 source_fits : (p : Program) (task : TaskDef) (source : Option Span) → OfSpan (MayRead p task) source
-  → SourceFits (regions task.accesses.items) (cell_total task.accesses.items) source
+    → SourceFits (regions task.accesses.items) (cell_total task.accesses.items) source
 source_fits p task None may = tt
 source_fits p task (Some span) may = declared_fits_in task.accesses.items span may.declared
 
 can_run : (p : Program) (task : TaskDef) (scratch : ℕ) (operation : Op) → IsOperation p task operation → destination_len operation ≤ scratch
-  → CanRun (regions task.accesses.items) (cell_total task.accesses.items) scratch operation
+    → CanRun (regions task.accesses.items) (cell_total task.accesses.items) scratch operation
 can_run p task scratch (op.Compute kind dst left right value step) is room = record {
-    room = room;
-    dst_fits = declared_fits_in task.accesses.items dst is.0.declared;
-    left_fits = source_fits p task left is.1;
-    right_fits = source_fits p task right is.2;
-    takes = takes_cells kind dst left right value is.3 }
+  room = room;
+  dst_fits = declared_fits_in task.accesses.items dst is.0.declared;
+  left_fits = source_fits p task left is.1;
+  right_fits = source_fits p task right is.2;
+  takes = takes_cells kind dst left right value is.3;
+}
 can_run p task scratch (op.Post how span peer tag comm status) is room = tt
 can_run p task scratch (op.Await later handles status) is room = tt
 
 pub body_can_run : (p : Program) (task : TaskDef) (ordered : List Access) (copy scratch : ℕ) → IsTask p task → ordered ≡ regions task.accesses.items
-  → copy ≡ cell_total task.accesses.items → HasRoomFor task.body.items scratch → All (CanRun ordered copy scratch) task.body.items
+    → copy ≡ cell_total task.accesses.items → HasRoomFor task.body.items scratch → All (CanRun ordered copy scratch) task.body.items
 body_can_run p task ordered copy scratch is order cells room = λ k d within.
     rw (order, cells) (can_run p task scratch (get_or task.body.items k d) (is.body k d within) (room k d within))
 
@@ -100,7 +101,7 @@ body_can_run p task ordered copy scratch is order cells room = λ k d within.
 
 -- its regions lie in the memory
 pub record_lies : (p q : Program) (t : ℕ) (def task : TaskDef) (ordered : List Access) → WellFormed p → p ≡ q
-  → slice_get p.tasks.items t ≡ Some def → slice_get q.tasks.items t ≡ Some task → ordered ≡ regions task.accesses.items → All (LiesIn p def.rank) ordered
+    → slice_get p.tasks.items t ≡ Some def → slice_get q.tasks.items t ≡ Some task → ordered ≡ regions task.accesses.items → All (LiesIn p def.rank) ordered
 record_lies p q t def task ordered well same is_def is_task order =
     let one = one_task p q t def task same is_def is_task in
     let order_def : regions def.accesses.items ≡ ordered = ap (λ (d : TaskDef). regions d.accesses.items) one ∙ sym order in
@@ -112,22 +113,22 @@ record_cells task ordered count order cells = cells ∙ sym (cell_total-regions 
 
 -- they are few
 pub record_total : (p q : Program) (t : ℕ) (def task : TaskDef) (ordered : List Access) → WellFormed p → p ≡ q
-  → slice_get p.tasks.items t ≡ Some def → slice_get q.tasks.items t ≡ Some task → ordered ≡ regions task.accesses.items → cell_total ordered ≤ 134217728
+    → slice_get p.tasks.items t ≡ Some def → slice_get q.tasks.items t ≡ Some task → ordered ≡ regions task.accesses.items → cell_total ordered ≤ 134217728
 record_total p q t def task ordered well same is_def is_task order =
     let one = one_task p q t def task same is_def is_task in
     let few = few_cells p t def well is_def in
     let cells : cell_total ordered ≡ cell_total def.accesses.items =
-        ap cell_total order ∙ cell_total-regions task.accesses.items ∙ ap (λ (d : TaskDef). cell_total d.accesses.items) (sym one) in
+    ap cell_total order ∙ cell_total-regions task.accesses.items ∙ ap (λ (d : TaskDef). cell_total d.accesses.items) (sym one) in
     omega arith
 
 -- its operations can run
 pub record_can_run : (p q : Program) (t : ℕ) (def task : TaskDef) (ordered : List Access) (copy scratch : ℕ) → WellFormed p → p ≡ q
-  → slice_get p.tasks.items t ≡ Some def → slice_get q.tasks.items t ≡ Some task → ordered ≡ regions task.accesses.items
-  → copy ≡ declared_cells task → HasRoomFor task.body.items scratch → All (CanRun ordered copy scratch) def.body.items
+    → slice_get p.tasks.items t ≡ Some def → slice_get q.tasks.items t ≡ Some task → ordered ≡ regions task.accesses.items
+    → copy ≡ declared_cells task → HasRoomFor task.body.items scratch → All (CanRun ordered copy scratch) def.body.items
 record_can_run p q t def task ordered copy scratch well same is_def is_task order cells room =
     let one = one_task p q t def task same is_def is_task in
     body_can_run p def ordered copy scratch (task_is p t def well is_def) (order ∙ ap (λ (d : TaskDef). regions d.accesses.items) (sym one))
-        (cells ∙ ap declared_cells (sym one)) (subst (λ (d : TaskDef). HasRoomFor d.body.items scratch) (sym one) room)
+    (cells ∙ ap declared_cells (sym one)) (subst (λ (d : TaskDef). HasRoomFor d.body.items scratch) (sym one) room)
 
 -- local operations stop at a phase that the task has
 stop_at_is : (task : TaskDef) (k : ℕ) (ops : List Op) → k + length ops ≡ length task.body.items → IsPhaseOf task (stop_at k ops)
@@ -145,21 +146,21 @@ def_is p q t found same is_found = ap (λ (r : Program). def_of r t) (sym same) 
 
 -- a record after its local operations
 pub moved_on_is : (held : Record) (d : TaskDef) (k : ℕ) (stopped : Phase) (copy : List ℤ) → held.phase ≡ phase.At k → def held ≡ d
-  → stopped ≡ stop_at k (drop k d.body.items) → copy ≡ run_front d (drop k d.body.items) held.copy
-  → record held { phase = stopped; copy = copy } ≡ moved_on (def held) held.phase held
+    → stopped ≡ stop_at k (drop k d.body.items) → copy ≡ run_front d (drop k d.body.items) held.copy
+    → record held { phase = stopped; copy = copy } ≡ moved_on (def held) held.phase held
 unfolding advanced stop
 moved_on_is held d k stopped copy is_at is_def is_stopped is_copy = rw (is_at, is_def, is_stopped, is_copy) refl
 
 -- what is stored at the front of a declared span has its places in the copy
 pub record_stores : (task : TaskDef) (ordered : List Access) (count cells : ℕ) (span : Span) → ordered ≡ regions task.accesses.items → count ≡ declared_cells task
-  → IsDeclared task.accesses.items span → cells ≤ span_len span → place_in ordered span.array span.from + cells ≤ count
+    → IsDeclared task.accesses.items span → cells ≤ span_len span → place_in ordered span.array span.from + cells ≤ count
 record_stores task ordered count cells span order all declared fits =
     let within = declared_fits_in task.accesses.items span declared in
     let e = ap (λ (found : List Access). place_in found span.array span.from) order in
     omega arith
 
 pub stored_is : (held : Record) (task : TaskDef) (ordered : List Access) (span : Span) (cells copied : List ℤ) → def held ≡ task → ordered ≡ regions task.accesses.items
-  → copied ≡ spliced (place_in ordered span.array span.from) cells held.copy → record held { copy = copied } ≡ record held { copy = put (def held) span cells held.copy }
+    → copied ≡ spliced (place_in ordered span.array span.from) cells held.copy → record held { copy = copied } ≡ record held { copy = put (def held) span cells held.copy }
 stored_is held task ordered span cells copied is_def order is_copied =
     rw is_def (ap (λ (copy : List ℤ). record held { copy = copy }) (is_copied ∙ put_in task ordered held.copy cells span order))
 
@@ -180,26 +181,26 @@ fits_send p task (op.Post how.Irecv span whom selected comm status) is = λ send
 fits_send p task (op.Await later handles status) is = tt
 
 pub record_sends : (p q : Program) (t : ℕ) (def task : TaskDef) (ordered : List Access) (count k : ℕ) (operation : Op) → WellFormed p → p ≡ q
-  → slice_get p.tasks.items t ≡ Some def → slice_get q.tasks.items t ≡ Some task → ordered ≡ regions task.accesses.items
-  → count ≡ declared_cells task → slice_get def.body.items k ≡ Some operation → FitsSend ordered count operation
+    → slice_get p.tasks.items t ≡ Some def → slice_get q.tasks.items t ≡ Some task → ordered ≡ regions task.accesses.items
+    → count ≡ declared_cells task → slice_get def.body.items k ≡ Some operation → FitsSend ordered count operation
 record_sends p q t def task ordered count k operation well same is_def is_task order cells is_operation =
     let one = one_task p q t def task same is_def is_task in
     let is = subst (IsOperation p def) (get_or_from_slice_get def.body.items k operation operation is_operation)
-        (All-get_or (IsOperation p def) def.body.items k operation (slice_get_within def.body.items k operation is_operation) (task_is p t def well is_def).body) in
+    (All-get_or (IsOperation p def) def.body.items k operation (slice_get_within def.body.items k operation is_operation) (task_is p t def well is_def).body) in
     let order_def : ordered ≡ regions def.accesses.items = order ∙ ap (λ (d : TaskDef). regions d.accesses.items) (sym one) in
     let count_def : count ≡ cell_total def.accesses.items = cells ∙ ap declared_cells (sym one) in
     rw (order_def, count_def) (fits_send p def operation is)
 
 sent_is : (task : TaskDef) (ordered : List Access) (copy : List ℤ) (operation : Op) → ordered ≡ regions task.accesses.items
-  → sent_in ordered copy operation ≡ packed_by task (Some operation) copy
+    → sent_in ordered copy operation ≡ packed_by task (Some operation) copy
 sent_is task ordered copy (op.Compute kind dst left right value step) order = refl
 sent_is task ordered copy (op.Post kind span whom selected comm status) order =
     ap (λ (cells : List ℤ). if is_receive kind then [] else cells) (source_is task ordered copy (Some span) order)
 sent_is task ordered copy (op.Await later handles status) order = refl
 
 pub packed_is : (held : Record) (d task : TaskDef) (ordered : List Access) (k : ℕ) (operation : Op) (cells : List ℤ) → held.phase ≡ phase.At k → def held ≡ d → d ≡ task
-  → ordered ≡ regions task.accesses.items → slice_get d.body.items k ≡ Some operation → cells ≡ sent_in ordered held.copy operation
-  → cells ≡ packed_next (def held) held.phase held.copy
+    → ordered ≡ regions task.accesses.items → slice_get d.body.items k ≡ Some operation → cells ≡ sent_in ordered held.copy operation
+    → cells ≡ packed_next (def held) held.phase held.copy
 unfolding packed
 packed_is held d task ordered k operation cells is_at is_def one order is_operation is_cells =
     rw (is_at, is_def, is_operation) (is_cells ∙ sent_is d ordered held.copy operation (order ∙ ap (λ (t : TaskDef). regions t.accesses.items) (sym one)))

@@ -1,5 +1,5 @@
 -- The program of the tests may be run.
-use Rattle.std.proofs.Common.{◌≡◌, ◌≢◌, get_or, ℕ, ◌+◌, ◌*◌, ◌<◌, ◌≤◌, ℤ, pos, true, List, [], ◌∷◌, length, All, AllPairs, sum, sum_by, Some, None, sym, ap, ◌∙◌, refl, subst, inl, inr, ⊎_elim, arith, slice_index}
+use Rattle.std.proofs.Common.{◌≡◌, ◌≢◌, get_or, ℕ, ◌+◌, ◌*◌, ◌<◌, ◌≤◌, pos, List, [], ◌∷◌, length, All, AllPairs, sum, sum_by, Some, None, sym, ap, ◌∙◌, refl, subst, ⊎_elim, arith, slice_index}
 use Rattle.std.proofs.lemmas.Bool.{cases_lt}
 use Rattle.std.proofs.lemmas.List.Elements.{All-nil, All-cons}
 use Rattle.rt_base.specs.declared.data.Span.{Span}
@@ -11,7 +11,7 @@ use Rattle.rt_base.specs.declared.data.Op.TheVariants as op
 use Rattle.rt_base.specs.declared.data.TaskDef.{TaskDef}
 use Rattle.rt_base.specs.declared.data.Program.{Program}
 use Rattle.rt_base.specs.Spans.{span_len, Overlaps}
-use Rattle.rt_base.specs.Layout.{array_count, array_len, memory_len}
+use Rattle.rt_base.specs.Layout.{array_count, array_len}
 use Rattle.rt_base.specs.Operations.{postings}
 use Rattle.rt_base.specs.WellFormed.{WellFormed, IsTask, IsSpan, IsOperation, MayRead, MayWrite, IsDeclared, IsWritable, InOrder, region_cells}
 
@@ -58,14 +58,14 @@ pub record IsSample (p : Program) (first second : TaskDef) : Type 0 where
 declared : (from to : ℕ) → to ≤ 4 → IsWritable halves (cells_of_a from to)
 declared from to within = λ cell covers.
     ⊎_elim (λ (lt : cell < 2). (1, half 0 2, omega arith, refl, ((refl, (omega arith, lt)), refl)))
-        (λ (ge : 2 ≤ cell). (0, half 2 4, omega arith, refl, ((refl, (ge, omega arith)), refl)))
-        (cases_lt cell 2)
+    (λ (ge : 2 ≤ cell). (0, half 2 4, omega arith, refl, ((refl, (ge, omega arith)), refl)))
+    (cases_lt cell 2)
 
 is_declared : (from to : ℕ) → to ≤ 4 → IsDeclared halves (cells_of_a from to)
 is_declared from to within = λ cell covers.
     ⊎_elim (λ (lt : cell < 2). (1, half 0 2, omega arith, refl, (refl, (omega arith, lt))))
-        (λ (ge : 2 ≤ cell). (0, half 2 4, omega arith, refl, (refl, (ge, omega arith))))
-        (cases_lt cell 2)
+    (λ (ge : 2 ≤ cell). (0, half 2 4, omega arith, refl, (refl, (ge, omega arith))))
+    (cases_lt cell 2)
 
 len_is : (p : Program) (first second : TaskDef) → IsSample p first second → array_len p 0 0 ≡ 4
 len_is p first second is =
@@ -79,30 +79,33 @@ in_array p first second rank from to is none ordered within =
     record { ordered = ordered; array = λ _. names; inside = λ _. subst (λ r. to ≤ array_len p r 0) (sym none) (omega arith) }
 
 may_read : (p : Program) (first second task : TaskDef) (body : List Op) (from to : ℕ) → IsSample p first second → IsSampleTask task body → from ≤ to → to ≤ 4
-  → MayRead p task (cells_of_a from to)
+    → MayRead p task (cells_of_a from to)
 may_read p first second task body from to is is_task ordered within = record {
-    in_array = in_array p first second task.rank from to is is_task.rank ordered within;
-    declared = subst (λ (accesses : List Access). IsDeclared accesses (cells_of_a from to)) (sym is_task.accesses) (is_declared from to within) }
+  in_array = in_array p first second task.rank from to is is_task.rank ordered within;
+  declared = subst (λ (accesses : List Access). IsDeclared accesses (cells_of_a from to)) (sym is_task.accesses) (is_declared from to within);
+}
 
 may_write : (p : Program) (first second task : TaskDef) (body : List Op) (from to : ℕ) → IsSample p first second → IsSampleTask task body → from ≤ to → to ≤ 4
-  → MayWrite p task (cells_of_a from to)
+    → MayWrite p task (cells_of_a from to)
 may_write p first second task body from to is is_task ordered within = record {
-    in_array = in_array p first second task.rank from to is is_task.rank ordered within;
-    declared = subst (λ (accesses : List Access). IsDeclared accesses (cells_of_a from to)) (sym is_task.accesses) (is_declared from to within);
-    writable = subst (λ (accesses : List Access). IsWritable accesses (cells_of_a from to)) (sym is_task.accesses) (declared from to within) }
+  in_array = in_array p first second task.rank from to is is_task.rank ordered within;
+  declared = subst (λ (accesses : List Access). IsDeclared accesses (cells_of_a from to)) (sym is_task.accesses) (is_declared from to within);
+  writable = subst (λ (accesses : List Access). IsWritable accesses (cells_of_a from to)) (sym is_task.accesses) (declared from to within);
+}
 
 may_write_nothing : (p : Program) (task : TaskDef) → MayWrite p task (record { array = 9; from = 3; to = 3 })
 may_write_nothing p task = record {
-    in_array = record { ordered = omega arith; array = λ some. absurd (omega arith); inside = λ some. absurd (omega arith) };
-    declared = λ cell covers. absurd (omega (arith, covers.0, covers.1));
-    writable = λ cell covers. absurd (omega (arith, covers.0, covers.1)) }
+  in_array = record { ordered = omega arith; array = λ some. absurd (omega arith); inside = λ some. absurd (omega arith) };
+  declared = λ cell covers. absurd (omega (arith, covers.0, covers.1));
+  writable = λ cell covers. absurd (omega (arith, covers.0, covers.1));
+}
 
 pairs_of_two : {X : Type 0} (R : X → X → Type 0) (one other : X) → R one other → AllPairs R (one ∷ other ∷ [])
 pairs_of_two R one other both = λ i j d below within.
     let first : i ≡ 0 = omega arith in
     let second : j ≡ 1 = omega arith in
     subst (λ n. R (get_or (one ∷ other ∷ []) n d) (get_or (one ∷ other ∷ []) j d)) (sym first)
-        (subst (λ n. R one (get_or (one ∷ other ∷ []) n d)) (sym second) both)
+    (subst (λ n. R one (get_or (one ∷ other ∷ []) n d)) (sym second) both)
 
 all_of_two : {X : Type 0} (P : X → Type 0) (one other : X) → P one → P other → All P (one ∷ other ∷ [])
 all_of_two P one other here there = All-cons P one (other ∷ []) here (All-cons P other [] there (All-nil P))
@@ -113,13 +116,14 @@ halves_apart = pairs_of_two (λ (one other : Access). ¬ Overlaps one.span other
 
 sample_task : (p : Program) (first second task : TaskDef) (body : List Op) → IsSample p first second → IsSampleTask task body → All (IsOperation p task) body → IsTask p task
 sample_task p first second task body is is_task operations = record {
-    rank = (let e = is.ranks in let f = is_task.rank in omega arith);
-    regions = subst (All (λ (access : Access). IsSpan p task.rank access.span)) (sym is_task.accesses)
-        (all_of_two (λ (access : Access). IsSpan p task.rank access.span) (half 2 4) (half 0 2)
-            (in_array p first second task.rank 2 4 is is_task.rank (omega arith) (omega arith))
-            (in_array p first second task.rank 0 2 is is_task.rank (omega arith) (omega arith)));
-    apart = subst (AllPairs (λ (one other : Access). ¬ Overlaps one.span other.span)) (sym is_task.accesses) halves_apart;
-    body = subst (All (IsOperation p task)) (sym is_task.operations) operations }
+  rank = (let e = is.ranks in let f = is_task.rank in omega arith);
+  regions = subst (All (λ (access : Access). IsSpan p task.rank access.span)) (sym is_task.accesses)
+      (all_of_two (λ (access : Access). IsSpan p task.rank access.span) (half 2 4) (half 0 2)
+      (in_array p first second task.rank 2 4 is is_task.rank (omega arith) (omega arith))
+      (in_array p first second task.rank 0 2 is is_task.rank (omega arith) (omega arith)));
+  apart = subst (AllPairs (λ (one other : Access). ¬ Overlaps one.span other.span)) (sym is_task.accesses) halves_apart;
+  body = subst (All (IsOperation p task)) (sym is_task.operations) operations;
+}
 
 first_operations : (p : Program) (first second : TaskDef) → IsSample p first second → All (IsOperation p first) (ramp_op ∷ [])
 first_operations p first second is =
@@ -162,4 +166,5 @@ sample_is_well_formed p first second is =
           (let a = is.is_first.rank in let b = is.is_second.rank in let c = is.is_first.epoch in let d = is.is_second.epoch in (omega arith, λ e. omega arith)));
       tasks = subst (All (IsTask p)) tasks (all_of_two (IsTask p) first second
           (sample_task p first second first (ramp_op ∷ []) is is.is_first (first_operations p first second is))
-          (sample_task p first second second (copy_op ∷ fill_op ∷ []) is is.is_second (second_operations p first second is))) }
+          (sample_task p first second second (copy_op ∷ fill_op ∷ []) is is.is_second (second_operations p first second is)));
+    }

@@ -1,6 +1,5 @@
 -- Local operations change nothing of what a record stands for.
-use Rattle.std.proofs.Common.{◌≡◌, ℕ, ◌+◌, ℤ, List, [], ◌∷◌, drop, slice_get, Option, Some, None, unwrap_or, sym, ap, ◌∙◌, refl, subst, arith, drop-drop}
-use Rattle.std.proofs.lemmas.Option.{same_Some}
+use Rattle.std.proofs.Common.{◌≡◌, ℕ, ◌+◌, ℤ, List, [], ◌∷◌, drop, slice_get, sym, ap, ◌∙◌, refl, subst, drop-drop}
 use Rattle.rt_base.specs.declared.data.Op.{Op}
 use Rattle.rt_base.specs.declared.data.Op.TheVariants as op
 use Rattle.rt_base.specs.declared.data.Phase.{Phase}
@@ -10,7 +9,7 @@ use Rattle.rt_base.specs.declared.data.Program.{Program}
 use Rattle.rt_base.specs.State.{State, Task}
 use Rattle.task_local.specs.Local.{run_front, computed, stop_at, advanced, stop}
 use Rattle.task_local.specs.StandsFor.{Record, StandsFor, StandsAs}
-use Rattle.task_local.specs.Standing.{no_task, def_of, def, moved_on}
+use Rattle.task_local.specs.Standing.{def, moved_on}
 use Rattle.task_local.proofs.Programs.{def_is}
 
 -- the rest of a list after one more item
@@ -19,7 +18,7 @@ rest_of k all rest first is = sym (drop-drop 1 k all) ∙ ap (λ (ops : List Op)
 
 -- the copy and the phase that local operations left need no more of them
 stands_at : (d : TaskDef) (task : Task) (k : ℕ) (ops : List Op) (copy : List ℤ) → drop k d.body.items ≡ ops
-  → stop_at k ops ≡ task.phase → run_front d ops copy ≡ task.copy → StandsAs d (stop_at k ops) (run_front d ops copy) task
+    → stop_at k ops ≡ task.phase → run_front d ops copy ≡ task.copy → StandsAs d (stop_at k ops) (run_front d ops copy) task
 unfolding advanced stop
 stands_at d task k [] copy is stops cells = (sym stops, cells)
 stands_at d task k (op.Compute kind dst left right value step ∷ ops) copy is stops cells =
@@ -30,7 +29,7 @@ stands_at d task k (op.Await later handles status ∷ ops) copy is stops cells =
     (ap (stop_at k) is ∙ stops, ap (λ (left : List Op). run_front d left copy) is ∙ cells)
 
 moved_stands : (d : TaskDef) (task : Task) (held : Record) (at : Phase) → held.phase ≡ at → StandsAs d at held.copy task
-  → StandsAs d (moved_on d at held).phase (moved_on d at held).copy task
+    → StandsAs d (moved_on d at held).phase (moved_on d at held).copy task
 unfolding advanced stop
 moved_stands d task held phase.Waiting is stands = rw is stands
 moved_stands d task held (phase.At k) is stands = stands_at d task k (drop k d.body.items) held.copy refl stands.0 stands.1
@@ -57,7 +56,7 @@ same_task d phase.Returned held = refl
 same_task d phase.Released held = refl
 
 pub stands_after_moved_on : (program : Program) (held : Record) (state : State) → StandsFor program held state
-  → StandsFor program (moved_on (def held) held.phase held) state
+    → StandsFor program (moved_on (def held) held.phase held) state
 stands_after_moved_on program held state stands =
     let same : def held ≡ stands.def = def_is program held.program held.task stands.def (sym stands.same) stands.is_def in
     let after : Record = moved_on (def held) held.phase held in
@@ -69,4 +68,5 @@ stands_after_moved_on program held state stands =
       is_def = ap (λ t. slice_get program.tasks.items t) task ∙ stands.is_def;
       is_task = ap (λ t. slice_get state.tasks t) task ∙ stands.is_task;
       stands = subst (λ (d : TaskDef). StandsAs stands.def (moved_on d held.phase held).phase (moved_on d held.phase held).copy stands.task) (sym same)
-          (moved_stands stands.def stands.task held held.phase refl stands.stands) }
+          (moved_stands stands.def stands.task held held.phase refl stands.stands);
+    }

@@ -1,5 +1,4 @@
 -- What follows from the definitions alone.
-use Rattle.std.specs.Prelude.{◌≡◌, ℕ}
 use Rattle.rt_base.specs.declared.data.Program.{Program}
 use Rattle.rt_base.specs.State.{State}
 use Rattle.task_local.specs.StandsFor.{Record, StandsFor}

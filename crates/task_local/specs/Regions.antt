@@ -1,5 +1,5 @@
 -- A task's own copy: the cells that it declares, in the order of array and cell.
-use Rattle.std.specs.Prelude.{ℕ, ◌+◌, ◌-◌, Bool, true, false, ◌||◌, ◌&&◌, ◌==◌, nat_lt, nat_le, min, List, [], ◌∷◌, ◌++◌, length, take, drop, sum_by, ℤ, if◌then◌else◌}
+use Rattle.std.specs.Prelude.{ℕ, ◌+◌, ◌-◌, Bool, ◌||◌, ◌&&◌, ◌==◌, nat_lt, min, List, [], ◌∷◌, ◌++◌, length, take, drop, sum_by, ℤ, if◌then◌else◌}
 use Rattle.rt_base.specs.declared.data.Span.{Span}
 use Rattle.rt_base.specs.declared.data.Access.{Access}
 use Rattle.rt_base.specs.declared.data.TaskDef.{TaskDef}
@@ -68,7 +68,7 @@ abbrev pub saved_regions : Program → ℕ → List Access → List ℤ → List
 saved_regions program rank [] copy memory = memory
 saved_regions program rank (access ∷ accesses) copy memory =
     saved_regions program rank accesses (drop (span_len access.span) copy)
-        (put_back program rank access (take (span_len access.span) copy) memory)
+    (put_back program rank access (take (span_len access.span) copy) memory)
 
 -- the memory after a task is released: its `out` and `inout` cells are those of its copy (OmpSs-2, data accesses; this project's copy)
 abbrev pub saved : Program → TaskDef → List ℤ → List ℤ → List ℤ

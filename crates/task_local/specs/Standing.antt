@@ -1,5 +1,5 @@
 -- Where a record stands, what may follow, and what its calls change.
-use Rattle.std.specs.Prelude.{◌≡◌, ℕ, ◌+◌, Bool, true, false, nat_lt, List, [], length, slice_get, ℤ, Option, Some, None, unwrap_or, ⊤, ◌⊎◌, if◌then◌else◌}
+use Rattle.std.specs.Prelude.{◌≡◌, ℕ, ◌+◌, nat_lt, List, [], length, slice_get, ℤ, Option, Some, None, unwrap_or, ⊤, ◌⊎◌, if◌then◌else◌}
 use Rattle.rt_base.specs.declared.data.Op.{Op}
 use Rattle.rt_base.specs.declared.data.Op.TheVariants as op
 use Rattle.rt_base.specs.declared.data.Phase.{Phase}

@@ -1,5 +1,5 @@
 -- What contracts see of a task's record, and when it stands for its task in a state of the machine.
-use Rattle.std.specs.Prelude.{◌≡◌, ◌≤◌, ℕ, List, length, slice_get, sum_by, ℤ, Some, ⊤}
+use Rattle.std.specs.Prelude.{◌≡◌, ℕ, List, slice_get, sum_by, ℤ, Some}
 use Rattle.rt_base.specs.declared.data.Access.{Access}
 use Rattle.rt_base.specs.declared.data.Phase.{Phase}
 use Rattle.rt_base.specs.declared.data.Phase.TheVariants as phase

@@ -82,4 +82,4 @@ told program exchange t task k = told_by program exchange t (nth_at task k) (sli
 unfoldable pub taken : Program → Exchange → ℕ → TaskDef → ℕ → List ℤ → List ℤ
 taken program exchange t task k copy =
     put_statuses task (status_span_of (slice_get task.body.items k)) (told program exchange t task k)
-        (stored_by_handles program exchange t task (handles_of (nth_at task k) (slice_get task.body.items k)) copy)
+    (stored_by_handles program exchange t task (handles_of (nth_at task k) (slice_get task.body.items k)) copy)

@@ -11,7 +11,13 @@ use crate::standing::cell_count;
 use rt_base::{Access, How, Kernel, Op, Phase, Span, TaskDef};
 
 // Runs the local operations from this one on, up to the first other operation or the end of the body.
-pub(crate) fn run_from(def: &TaskDef, ordered: &[Access], copy: &mut [i64], scratch: &mut [i64], first: u32) -> Phase
+pub(crate) fn run_from(
+    def: &TaskDef,
+    ordered: &[Access],
+    copy: &mut [i64],
+    scratch: &mut [i64],
+    first: u32,
+) -> Phase
     requires regions { ordered.now ≡ regions def.now.accesses.items }
     requires total { cell_total ordered.now < 2 ^ 63 }
     requires place { first ≤ length def.now.body.items }

@@ -85,7 +85,13 @@ impl TaskRec {
         let def = task_def(prog, self.task);
         match self.phase {
             Phase::Waiting => {}
-            Phase::At(k) => self.phase = run_from(def, &self.ordered, &mut self.copy, &mut self.scratch, k),
+            Phase::At(k) => self.phase = run_from(
+                def,
+                &self.ordered,
+                &mut self.copy,
+                &mut self.scratch,
+                k,
+            ),
             Phase::In(_) => {}
             Phase::Ended => {}
             Phase::Returned => {}
@@ -149,8 +155,13 @@ impl TaskRec {
     {
         let def = task_def(prog, self.task);
         match self.phase {
-            Phase::At(k) => listed(alloc, sent_cells(&self.ordered, &self.copy, operation(def, k))),
-            Phase::Waiting | Phase::In(_) | Phase::Ended | Phase::Returned | Phase::Released => Ok(Cells::empty(alloc)),
+            Phase::At(k) => listed(
+                alloc,
+                sent_cells(&self.ordered, &self.copy, operation(def, k)),
+            ),
+            Phase::Waiting | Phase::In(_) | Phase::Ended | Phase::Returned | Phase::Released => Ok(
+                Cells::empty(alloc),
+            ),
         }
     }
 }

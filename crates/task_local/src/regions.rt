@@ -93,7 +93,13 @@ pub(crate) fn put_cells(ordered: &[Access], copy: &mut [i64], span: Span, cells:
 }
 
 // Copies the cells of the regions in from the memory of all ranks.
-pub(crate) fn load_regions(prog: &Program, rank: u16, ordered: &[Access], memory: &[i64], copy: &mut [i64])
+pub(crate) fn load_regions(
+    prog: &Program,
+    rank: u16,
+    ordered: &[Access],
+    memory: &[i64],
+    copy: &mut [i64],
+)
     requires inside { All (LiesIn prog.now rank) ordered.now }
     requires memory { length memory.now ≡ memory_len prog.now }
     requires copy { length copy.old ≡ cell_total ordered.now }
@@ -109,7 +115,13 @@ pub(crate) fn load_regions(prog: &Program, rank: u16, ordered: &[Access], memory
 }
 
 // Puts the cells of the written regions back into the memory of all ranks.
-pub(crate) fn save_regions(prog: &Program, rank: u16, ordered: &[Access], copy: &[i64], memory: &mut [i64])
+pub(crate) fn save_regions(
+    prog: &Program,
+    rank: u16,
+    ordered: &[Access],
+    copy: &[i64],
+    memory: &mut [i64],
+)
     requires inside { All (LiesIn prog.now rank) ordered.now }
     requires memory { length memory.old ≡ memory_len prog.now }
     requires copy { length copy.now ≡ cell_total ordered.now }

@@ -8,8 +8,8 @@ ghost use Rattle.rt_base.specs.WellFormed.{WellFormed};
 
 use crate::{At, TaskRec};
 use rt_base::{
-    Access, Accesses, Body, Kernel, Lens, Mode, Name, Names, Op, Phase, Program, Shows, Span, TaskDef,
-    TaskNo, Tasks,
+    Access, Accesses, Body, Kernel, Lens, Mode, Name, Names, Op, Phase, Program, Shows, Span,
+    TaskDef, TaskNo, Tasks,
 };
 use std::alloc::Global;
 use std::process::Abort;
@@ -30,7 +30,13 @@ fn bodies_work_on_their_copies(rt: HostRuntime) -> Result<(), Fail> {
 }
 
 // Runs a task with local operations alone.
-fn run(rt: &impl Abort, alloc: Global, program: &Program, task: TaskNo, memory: &mut [i64]) -> Result<(), Fail>
+fn run(
+    rt: &impl Abort,
+    alloc: Global,
+    program: &Program,
+    task: TaskNo,
+    memory: &mut [i64],
+) -> Result<(), Fail>
     requires well_formed { WellFormed program.now }
     requires task { task.0 < length program.now.tasks.items }
     requires bodies { All (λ (def : TaskDef). 0 < length def.body.items) program.now.tasks.items }
@@ -55,7 +61,11 @@ fn sample(alloc: Global) -> Result<Program, Fail>
 {
     let ramp = Op::Compute {
         kernel: Kernel::Ramp,
-        dst: Span { array: 0, from: 1, to: 3 },
+        dst: Span {
+            array: 0,
+            from: 1,
+            to: 3,
+        },
         left: None,
         right: None,
         value: 5,
@@ -63,15 +73,27 @@ fn sample(alloc: Global) -> Result<Program, Fail>
     };
     let shared = Op::Compute {
         kernel: Kernel::Copy,
-        dst: Span { array: 0, from: 1, to: 3 },
-        left: Some(Span { array: 0, from: 0, to: 2 }),
+        dst: Span {
+            array: 0,
+            from: 1,
+            to: 3,
+        },
+        left: Some(Span {
+            array: 0,
+            from: 0,
+            to: 2,
+        }),
         right: None,
         value: 0,
         step: 0,
     };
     let nothing = Op::Compute {
         kernel: Kernel::Fill,
-        dst: Span { array: 9, from: 3, to: 3 },
+        dst: Span {
+            array: 9,
+            from: 3,
+            to: 3,
+        },
         left: None,
         right: None,
         value: 7,
@@ -96,16 +118,24 @@ fn task_of(alloc: Global, body: Vec<Op>) -> Result<TaskDef, Fail>
     ensures epoch { IfOk result (λ def. def.epoch ≡ 0) }
     ensures accesses { IfOk result (λ def. def.accesses.items
         ≡ record { mode = mode.Out; span = record { array = 0; from = 2; to = 4 } }
-            ∷ record { mode = mode.Out; span = record { array = 0; from = 0; to = 2 } } ∷ []) }
+        ∷ record { mode = mode.Out; span = record { array = 0; from = 0; to = 2 } } ∷ []) }
     ensures body { IfOk result (λ def. def.body.items ≡ body.items) }
 {
     let second = Access {
         mode: Mode::Out,
-        span: Span { array: 0, from: 2, to: 4 },
+        span: Span {
+            array: 0,
+            from: 2,
+            to: 4,
+        },
     };
     let first = Access {
         mode: Mode::Out,
-        span: Span { array: 0, from: 0, to: 2 },
+        span: Span {
+            array: 0,
+            from: 0,
+            to: 2,
+        },
     };
     Ok(TaskDef {
         rank: 0,

@@ -8,4 +8,5 @@ invariant-loop-k l = record {
   value : run_front l.def (drop l.k l.def.body.items) l.copy ≡ run_front l.def (drop l.first l.def.body.items) l.fn.copy;
   stops : stop_at l.k (drop l.k l.def.body.items) ≡ stop_at l.first (drop l.first l.def.body.items);
   copy_len : length l.copy ≡ length l.fn.copy;
-  scratch_len : length l.scratch ≡ length l.fn.scratch }
+  scratch_len : length l.scratch ≡ length l.fn.scratch;
+}

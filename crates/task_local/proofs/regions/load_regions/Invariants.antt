@@ -7,4 +7,5 @@ use Rattle.task_local.proofs.regions.load_regions.Given as goal
 abbrev pub invariant-loop-access : goal.invariant-loop-access
 invariant-loop-access l = record {
   value : take l.at l.copy ++ loaded_regions l.prog l.rank (drop l.access-index l.ordered) l.memory ≡ loaded_regions l.prog l.rank l.ordered l.memory;
-  left : l.at + cell_total (drop l.access-index l.ordered) ≡ length l.copy }
+  left : l.at + cell_total (drop l.access-index l.ordered) ≡ length l.copy;
+}

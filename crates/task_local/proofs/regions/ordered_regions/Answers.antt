@@ -9,5 +9,5 @@ use Rattle.task_local.proofs.regions.ordered_regions.Goals as goal
 pub returns : goal.returns
 returns c =
     sorted_is_regions c.args.accesses.now c.sort_unstable_by_key.new.self.items c.requires.low c.requires.apart
-        (subst (λ (xs : List Access). IsPermutation xs c.sort_unstable_by_key.new.self.items) c.in_ok-ordered.ensures c.sort_unstable_by_key.ensures.permutation)
-        (IsNonDecreasingBy-from_sort_by_key first_cell _ c.sort_unstable_by_key.ensures.sorted (λ a r q k. search rules))
+    (subst (λ (xs : List Access). IsPermutation xs c.sort_unstable_by_key.new.self.items) c.in_ok-ordered.ensures c.sort_unstable_by_key.ensures.permutation)
+    (IsNonDecreasingBy-from_sort_by_key first_cell _ c.sort_unstable_by_key.ensures.sorted (λ a r q k. search rules))

@@ -9,4 +9,5 @@ abbrev pub invariant-loop-access : goal.invariant-loop-access
 invariant-loop-access l = record {
   value : saved_regions l.prog l.rank (drop l.access-index l.ordered) (drop l.at l.copy) l.memory ≡ saved_regions l.prog l.rank l.ordered l.copy l.fn.memory;
   left : l.at + cell_total (drop l.access-index l.ordered) ≡ length l.copy;
-  whole : length l.memory ≡ memory_len l.prog }
+  whole : length l.memory ≡ memory_len l.prog;
+}

@@ -13,12 +13,15 @@ returns-clause-well_formed c =
       shows = c.empty.ensures.items;
       tasks = c.from_vec-3.ensures.items ∙ c.in_ok-vec-5.ensures.items;
       is_first = record {
-          rank = c.in_ok-first.ensures.rank;
-          epoch = c.in_ok-first.ensures.epoch;
-          accesses = c.in_ok-first.ensures.accesses;
-          operations = c.in_ok-first.ensures.body ∙ c.in_ok-vec.ensures.items };
+        rank = c.in_ok-first.ensures.rank;
+        epoch = c.in_ok-first.ensures.epoch;
+        accesses = c.in_ok-first.ensures.accesses;
+        operations = c.in_ok-first.ensures.body ∙ c.in_ok-vec.ensures.items;
+      };
       is_second = record {
-          rank = c.in_ok-second.ensures.rank;
-          epoch = c.in_ok-second.ensures.epoch;
-          accesses = c.in_ok-second.ensures.accesses;
-          operations = c.in_ok-second.ensures.body ∙ c.in_ok-vec-2.ensures.items } })
+        rank = c.in_ok-second.ensures.rank;
+        epoch = c.in_ok-second.ensures.epoch;
+        accesses = c.in_ok-second.ensures.accesses;
+        operations = c.in_ok-second.ensures.body ∙ c.in_ok-vec-2.ensures.items;
+      };
+    })

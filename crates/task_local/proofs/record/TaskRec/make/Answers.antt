@@ -1,4 +1,4 @@
-use Rattle.std.proofs.Common.{◌≡◌, ◌≤◌, List, subst, ap, ◌∙◌, sym, length, rules, arith}
+use Rattle.std.proofs.Common.{◌≡◌, List, subst, ap, ◌∙◌, arith}
 use Rattle.rt_base.specs.declared.data.Op.{Op}
 use Rattle.task_local.specs.Regions.{regions}
 use Rattle.task_local.specs.Kept.{cell_total, HasRoomFor}
@@ -21,14 +21,14 @@ cell_total_of-requires c =
     let def = c.task_def-def.result.now in
     let few = few_cells c.args.prog.now c.args.task.0 def c.requires.well_formed c.task_def-def.ensures in
     let cells : cell_total c.as_slice-2.result.now ≡ cell_total def.accesses.items =
-        ap cell_total (c.as_slice-2.ensures.value ∙ c.in_ok-ordered.ensures ∙ ap regions c.as_slice.ensures) ∙ cell_total-regions def.accesses.items in
+    ap cell_total (c.as_slice-2.ensures.value ∙ c.in_ok-ordered.ensures ∙ ap regions c.as_slice.ensures) ∙ cell_total-regions def.accesses.items in
     omega arith
 
 pub invariant_of-result : goal.invariant_of-result
 invariant_of-result c =
     let def = c.task_def-def.result.now in
     let cells : cell_total c.as_slice-2.result.now ≡ cell_total def.accesses.items =
-        ap cell_total (c.as_slice-2.ensures.value ∙ c.in_ok-ordered.ensures ∙ ap regions c.as_slice.ensures) ∙ cell_total-regions def.accesses.items in
+    ap cell_total (c.as_slice-2.ensures.value ∙ c.in_ok-ordered.ensures ∙ ap regions c.as_slice.ensures) ∙ cell_total-regions def.accesses.items in
     let made = c.in_ok-copy.ensures in
     let scratch = c.in_ok-scratch.ensures in
     let room = subst (λ (ops : List Op). HasRoomFor ops c.longest_destination.result) c.as_slice-3.ensures c.longest_destination.ensures in
@@ -38,4 +38,5 @@ invariant_of-result c =
       place = tt;
       ordered_regions = c.in_ok-ordered.ensures ∙ ap regions c.as_slice.ensures;
       cells = omega (arith, made.len, c.in_ok-copy.copy.ok.0);
-      room = λ k d within. let fits = room k d within in omega (arith, scratch.len, c.in_ok-scratch.scratch.ok.0) }
+      room = λ k d within. let fits = room k d within in omega (arith, scratch.len, c.in_ok-scratch.scratch.ok.0);
+    }

@@ -1,4 +1,4 @@
-use Rattle.std.proofs.Common.{◌≡◌, ℤ, List, ◌++◌, ◌≤◌, ◌<◌, take, drop, subst, ap, ◌∙◌, sym, length, take_at, rules, arith}
+use Rattle.std.proofs.Common.{◌≡◌, ℤ, List, ◌++◌, ◌<◌, take, drop, subst, ap, ◌∙◌, length, take_at, arith}
 use Rattle.rt_base.specs.declared.data.TaskDef.{TaskDef}
 use Rattle.task_local.specs.Local.{run_front}
 use Rattle.task_local.specs.Kept.{IsPhaseOf}
@@ -11,7 +11,7 @@ pub run_from-self-inside-requires-clause-total : goal.run_from-self-inside-requi
 run_from-self-inside-requires-clause-total c =
     let same = rw (← c.self.view_is) at c.requires.same in
     let total = record_total c.args.prog.now c.self.inside.program.value c.self.inside.task.0 c.task_def-def.result.now c.self.invariant.task c.self.inside.ordered.items
-        c.requires.well_formed same c.task_def-def.ensures c.self.invariant.is_task c.self.invariant.ordered_regions in
+    c.requires.well_formed same c.task_def-def.ensures c.self.invariant.is_task c.self.invariant.ordered_regions in
     rw c.deref.ensures.value (omega arith)
 
 pub run_from-self-inside-requires-clause-few : goal.run_from-self-inside-requires-clause-few
@@ -22,8 +22,8 @@ pub run_from-self-inside-requires-clause-can : goal.run_from-self-inside-require
 run_from-self-inside-requires-clause-can c =
     let same = rw (← c.self.view_is) at c.requires.same in
     rw (c.deref.ensures.value, c.deref_mut.ensures.value, c.deref_mut-in-At.ensures.value)
-        (record_can_run c.args.prog.now c.self.inside.program.value c.self.inside.task.0 c.task_def-def.result.now c.self.invariant.task c.self.inside.ordered.items _ _
-            c.requires.well_formed same c.task_def-def.ensures c.self.invariant.is_task c.self.invariant.ordered_regions c.self.invariant.cells c.self.invariant.room)
+    (record_can_run c.args.prog.now c.self.inside.program.value c.self.inside.task.0 c.task_def-def.result.now c.self.invariant.task c.self.inside.ordered.items _ _
+    c.requires.well_formed same c.task_def-def.ensures c.self.invariant.is_task c.self.invariant.ordered_regions c.self.invariant.cells c.self.invariant.room)
 
 pub invariant_of-self : goal.invariant_of-self
 invariant_of-self c =
@@ -45,7 +45,8 @@ invariant_of-self c =
       room = λ k d in_body.
           let fits = c.self.invariant.room k d in_body in
           let len = ap length scratch ∙ ran.auto.scratch ∙ ap length c.deref_mut-in-At.ensures.value in
-          omega arith }
+          omega arith;
+    }
 
 pub returns-in-At : goal.returns-in-At
 returns-in-At c =
@@ -58,6 +59,6 @@ returns-in-At c =
     let after : Record = record { program = inside.program.value; task = inside.task.0; phase = ran.result; copy = copied } in
     let front = λ (cells : List ℤ). run_front c.task_def-def.result.now (drop c.in-At.k c.task_def-def.result.now.body.items) cells in
     subst (λ (h : Record). after ≡ moved_on (def h) h.phase h) c.self.view_is
-        (moved_on_is held c.task_def-def.result.now c.in-At.k ran.result copied c.in-At.is
-            (def_is c.args.prog.now inside.program.value inside.task.0 c.task_def-def.result.now same c.task_def-def.ensures)
-            ran.ensures.phase (copy ∙ ran.ensures.copy ∙ ap front c.deref_mut.ensures.value))
+    (moved_on_is held c.task_def-def.result.now c.in-At.k ran.result copied c.in-At.is
+    (def_is c.args.prog.now inside.program.value inside.task.0 c.task_def-def.result.now same c.task_def-def.ensures)
+    ran.ensures.phase (copy ∙ ran.ensures.copy ∙ ap front c.deref_mut.ensures.value))

@@ -1,4 +1,3 @@
-use Rattle.std.proofs.Common.{rules, arith}
 use Rattle.task_local.proofs.Programs.{record_lies, record_cells}
 use Rattle.task_local.proofs.record.TaskRec.save.Goals as goal
 
@@ -6,7 +5,7 @@ pub save_regions-requires-clause-inside : goal.save_regions-requires-clause-insi
 save_regions-requires-clause-inside c =
     let same = rw (← c.self.view_is) at c.requires.same in
     rw c.deref.ensures.value (record_lies c.args.prog.now c.self.inside.program.value c.self.inside.task.0 c.task_def-def.result.now c.self.invariant.task c.self.inside.ordered.items
-        c.requires.well_formed same c.task_def-def.ensures c.self.invariant.is_task c.self.invariant.ordered_regions)
+    c.requires.well_formed same c.task_def-def.ensures c.self.invariant.is_task c.self.invariant.ordered_regions)
 
 pub save_regions-requires-clause-copy : goal.save_regions-requires-clause-copy
 save_regions-requires-clause-copy c =

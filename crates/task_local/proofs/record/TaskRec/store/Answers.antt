@@ -1,5 +1,4 @@
-use Rattle.std.proofs.Common.{◌≡◌, ◌≤◌, ℤ, List, ◌++◌, take, drop, length, subst, ap, sym, ◌∙◌, refl, take_at, arith}
-use Rattle.rt_base.specs.declared.data.Program.{Program}
+use Rattle.std.proofs.Common.{◌≡◌, ℤ, List, ◌++◌, take, drop, length, subst, ap, ◌∙◌, refl, take_at, arith}
 use Rattle.rt_base.specs.declared.data.TaskDef.{TaskDef}
 use Rattle.rt_base.specs.WellFormed.{WellFormed, IsDeclared}
 use Rattle.task_local.specs.Regions.{put, spliced}
@@ -15,7 +14,7 @@ put_cells-requires-clause-total c =
     let p = c.self.inside.program.value in
     let kept = c.self.invariant in
     let total = record_total p p c.self.inside.task.0 kept.task kept.task c.self.inside.ordered.items
-        (subst WellFormed same c.requires.well_formed) refl kept.is_task kept.is_task kept.ordered_regions in
+    (subst WellFormed same c.requires.well_formed) refl kept.is_task kept.is_task kept.ordered_regions in
     rw c.deref.ensures.value (omega arith)
 
 pub put_cells-requires-clause-fits : goal.put_cells-requires-clause-fits
@@ -25,8 +24,8 @@ put_cells-requires-clause-fits c =
     let declared = rw (← c.self.view_is) at c.requires.declared in
     let is_def = def_is p p c.self.inside.task.0 kept.task refl kept.is_task in
     rw (c.deref.ensures.value, c.deref_mut.ensures.value)
-        (record_stores kept.task c.self.inside.ordered.items _ (length c.args.cells.now) c.args.span kept.ordered_regions kept.cells
-            (subst (λ (d : TaskDef). IsDeclared d.accesses.items c.args.span) is_def declared) c.requires.fits)
+    (record_stores kept.task c.self.inside.ordered.items _ (length c.args.cells.now) c.args.span kept.ordered_regions kept.cells
+    (subst (λ (d : TaskDef). IsDeclared d.accesses.items c.args.span) is_def declared) c.requires.fits)
 
 pub returns : goal.returns
 returns c =
@@ -40,6 +39,6 @@ returns c =
     let cells = ap (λ whole. spliced (place_in inside.ordered.items c.args.span.array c.args.span.from) c.args.cells.now whole) c.deref_mut.ensures.value in
     let after : Record = record { program = inside.program.value; task = inside.task.0; phase = inside.phase; copy = copied } in
     subst (λ (h : Record). after ≡ record h { copy = put (def h) c.args.span c.args.cells.now h.copy }) c.self.view_is
-        (stored_is held kept.task inside.ordered.items c.args.span c.args.cells.now copied
-            (def_is inside.program.value inside.program.value inside.task.0 kept.task refl kept.is_task) kept.ordered_regions
-            (copy ∙ c.put_cells.ensures ∙ places ∙ cells))
+    (stored_is held kept.task inside.ordered.items c.args.span c.args.cells.now copied
+    (def_is inside.program.value inside.program.value inside.task.0 kept.task refl kept.is_task) kept.ordered_regions
+    (copy ∙ c.put_cells.ensures ∙ places ∙ cells))

@@ -1,0 +1,10 @@
+mod Traffics
+mod Counts
+mod Marks
+pub mod SameRequest
+pub mod Postings
+mod Accounts
+mod Course
+mod Calls
+mod Keeps
+mod Replies

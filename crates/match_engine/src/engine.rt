@@ -1,0 +1,131 @@
+//! The matching engine of a program.
+
+ghost use Rattle.std.specs.Prelude.{◌≡◌, true, false, length, IfOk, IfSome, []};
+ghost use Rattle.rt_base.specs.Operations.{posting_of};
+ghost use Rattle.rt_base.specs.Exchange.{silent, post, partner};
+ghost use Rattle.rt_base.specs.Completion.{is_posted, is_complete, completes_alone, request_status, request_cells};
+ghost use Rattle.rt_base.specs.WellFormed.{WellFormed};
+ghost use Rattle.match_engine.specs.Requests.{IsSend, IsReceive};
+
+use crate::completion::{cells, is_complete, status};
+use crate::exchange::Exchange;
+use crate::slots::Slots;
+use rt_base::{Cells, Program, ReqNo, Status};
+use std::alloc::{AllocError, Global};
+use std::marker::Model;
+use std::snapshot::Snapshot;
+
+/// The matching engine: the unexpected message queue and the posted receive queue of each rank, and what became of each request.
+/// Contracts see its program and the exchange. Memory is taken as it is built, and by no other call.
+#[derive(Drop)]
+pub struct Engine {
+    program: Snapshot<Program>,
+    eager: u32,
+    exchange: Exchange,
+    slots: Slots,
+}
+
+impl Model for Engine {
+    ghost use Rattle.match_engine.specs.Switch.{Switch};
+    ghost use Rattle.match_engine.specs.Queues.{exchange_of};
+    ghost use Rattle.match_engine.specs.Kept.{IsKept};
+
+    ghost Value = { Switch };
+
+    ghost view = { λ e. record { program = e.program.value; exchange = exchange_of e.exchange } };
+
+    ghost invariant = { λ e. IsKept e.program.value e.eager e.exchange e.slots };
+}
+
+impl Engine {
+    /// The engine of a program of which nothing is posted. Looks at each request once for each rank.
+    pub fn build(alloc: Global, prog: &Program) -> Result<Self, AllocError>
+        requires { WellFormed prog.now }
+        ensures program { IfOk result (λ engine. engine.program ≡ prog.now) }
+        ensures exchange { IfOk result (λ engine. engine.exchange ≡ silent prog.now.ranks) }
+    {
+        let slots = Slots::build(alloc, prog)?;
+        Ok(Engine {
+            program: Snapshot::of(prog),
+            eager: prog.eager,
+            exchange: Exchange::build(alloc, &slots, prog.ranks)?,
+            slots,
+        })
+    }
+
+    /// Posts a send with the cells that it takes now, and answers the receive that took its message (MPI 4.0, 3.5, order).
+    /// Looks at each waiting receive of the addressed rank at most once.
+    pub fn post_send(&mut self, prog: &Program, req: ReqNo, cells: Cells) -> Option<ReqNo>
+        requires program { prog.now ≡ self.old.program }
+        requires send { IsSend self.old.program req (length cells.items) }
+        requires new { is_posted self.old.exchange req ≡ false }
+        ensures program { self.new.program ≡ self.old.program }
+        ensures exchange { self.new.exchange ≡ post self.old.program self.old.exchange req cells.items }
+        ensures partner { result ≡ partner self.old.program self.old.exchange req cells.items }
+
+        // A partner was complete before only where it completes by itself, and is complete now.
+        ensures before { IfSome result (λ other. is_complete self.old.program self.old.exchange other
+            ≡ completes_alone self.old.program.eager (posting_of self.old.program other)) }
+        ensures completed { IfSome result (λ other. is_complete self.new.program self.new.exchange other ≡ true) }
+    {
+        let _ = prog;
+        let slot = self.slots.get(req);
+        let place = self.exchange.matched();
+        let partner = self.exchange.post_send(req, slot.call, cells);
+        self.slots.settle(req, partner, place);
+        partner
+    }
+
+    /// Posts a receive, and answers the send whose message it took (MPI 4.0, 3.5, order).
+    /// Looks at each waiting message of its rank at most once.
+    pub fn post_recv(&mut self, prog: &Program, req: ReqNo) -> Option<ReqNo>
+        requires program { prog.now ≡ self.old.program }
+        requires receive { IsReceive self.old.program req }
+        requires new { is_posted self.old.exchange req ≡ false }
+        ensures program { self.new.program ≡ self.old.program }
+        ensures exchange { self.new.exchange ≡ post self.old.program self.old.exchange req [] }
+        ensures partner { result ≡ partner self.old.program self.old.exchange req [] }
+
+        // A partner was complete before only where it completes by itself, and is complete now.
+        ensures before { IfSome result (λ other. is_complete self.old.program self.old.exchange other
+            ≡ completes_alone self.old.program.eager (posting_of self.old.program other)) }
+        ensures completed { IfSome result (λ other. is_complete self.new.program self.new.exchange other ≡ true) }
+    {
+        let _ = prog;
+        let slot = self.slots.get(req);
+        let place = self.exchange.matched();
+        let partner = self.exchange.post_receive(req, slot.call);
+        self.slots.settle(req, partner, place);
+        partner
+    }
+
+    /// Whether the request is complete (MPI 4.0, 3.4 and 3.7.3), in constant time.
+    pub fn complete(&self, req: ReqNo) -> bool
+        ensures { result ≡ is_complete self.now.program self.now.exchange req }
+    {
+        match self.slots.at(req) {
+            Some(slot) => is_complete(self.eager, slot.call, slot.progress),
+            None => false,
+        }
+    }
+
+    /// The status of a complete request (MPI 4.0, 3.2.5, 3.7.3 and 3.11), in constant time.
+    pub fn status(&self, prog: &Program, req: ReqNo) -> Status
+        requires program { prog.now ≡ self.now.program }
+        requires complete { is_complete self.now.program self.now.exchange req ≡ true }
+        ensures { result ≡ request_status self.now.program self.now.exchange req }
+    {
+        let _ = prog;
+        let slot = self.slots.get(req);
+        status(slot.call, self.exchange.match_of(slot.progress))
+    }
+
+    /// The cells that a complete request stores: those of a matched receive, and none of any other (MPI 4.0, 3.2.4). In constant time.
+    pub fn cells(&self, req: ReqNo) -> &[i64]
+        requires { is_complete self.now.program self.now.exchange req ≡ true }
+        ensures { result.now ≡ request_cells self.now.program self.now.exchange req }
+    {
+        let slot = self.slots.get(req);
+        cells(slot.call, self.exchange.match_of(slot.progress))
+    }
+}

@@ -1,0 +1,6 @@
+pub mod Cuts
+pub mod FormLemmas
+pub mod Fronts
+pub mod LineLemmas
+pub mod Numbers
+pub mod StatementLemmas

@@ -1,0 +1,133 @@
+//! The forms of text that are read.
+
+ghost use Rattle.std.specs.Prelude.{◌≡◌, ◌≤◌, length};
+ghost use Rattle.std.specs.List.{prefix_len};
+ghost use Rattle.task_parse.specs.Forms.{is_in, behind, is_end, is_body, is_output_and_fills, is_plain_task, is_one_task, is_form_one, is_form_two};
+
+use crate::bytes;
+use crate::tree::{Stmt, What};
+use rt_base::Mode;
+
+/// A part of a text of these forms.
+#[derive(Clone, Copy)]
+pub enum Part {
+    Array,
+    Show,
+    Task,
+    /// An `out` line.
+    Output,
+    /// An access line of any mode.
+    Access,
+    Do,
+    /// A `fill` line.
+    Fill,
+    /// Any operation.
+    Operation,
+    End,
+}
+
+// Whether the statement may stand in this part.
+fn is_in(part: Part, what: &What) -> bool
+    ensures { result ≡ is_in part what.now }
+{
+    match part {
+        Part::Array => matches!(what, What::Array { .. }),
+        Part::Show => matches!(what, What::Show { .. }),
+        Part::Task => matches!(what, What::Task),
+        Part::Output => matches!(
+            what,
+            What::Touch {
+                mode: Mode::Out,
+                ..
+            }
+        ),
+        Part::Access => matches!(what, What::Touch { .. }),
+        Part::Do => matches!(what, What::Do),
+        Part::Fill => matches!(what, What::Fill { .. }),
+        Part::Operation => matches!(
+            what,
+            What::Fill { .. } | What::Copy { .. } | What::Posting { .. }
+        ),
+        Part::End => matches!(what, What::End),
+    }
+}
+
+// How many statements of the part stand at the front.
+fn part_len(part: Part, stmts: &[Stmt]) -> usize
+    ensures len { result ≡ prefix_len (λ s. is_in part s.what) stmts.now }
+    ensures within { result ≤ length stmts.now }
+{
+    stmts.iter().take_while(|s| is_in(part, &s.what)).count()
+}
+
+// What stands behind all the statements of the part.
+fn behind(part: Part, stmts: &[Stmt]) -> &[Stmt]
+    ensures { result.now ≡ behind part stmts.now }
+{
+    bytes::behind(stmts, part_len(part, stmts))
+}
+
+fn is_end(stmts: &[Stmt]) -> bool
+    ensures { result ≡ is_end stmts.now }
+{
+    match stmts {
+        [] => false,
+        [stmt] => is_in(Part::End, &stmt.what),
+        [_, _, ..] => false,
+    }
+}
+
+// A body, all of whose operations are of the part.
+fn is_body(part: Part, stmts: &[Stmt]) -> bool
+    ensures { result ≡ is_body part stmts.now }
+{
+    match stmts {
+        [] => false,
+        [stmt, rest @ ..] => is_in(Part::Do, &stmt.what) && is_end(behind(part, rest)),
+    }
+}
+
+fn is_output_and_fills(stmts: &[Stmt]) -> bool
+    ensures { result ≡ is_output_and_fills stmts.now }
+{
+    match stmts {
+        [] => false,
+        [stmt, rest @ ..] => is_in(Part::Output, &stmt.what) && is_body(Part::Fill, rest),
+    }
+}
+
+fn is_plain_task(stmts: &[Stmt]) -> bool
+    ensures { result ≡ is_plain_task stmts.now }
+{
+    match stmts {
+        [] => true,
+        [stmt, rest @ ..] => is_in(Part::Task, &stmt.what) && is_output_and_fills(rest),
+    }
+}
+
+fn is_one_task(stmts: &[Stmt]) -> bool
+    ensures { result ≡ is_one_task stmts.now }
+{
+    match stmts {
+        [] => true,
+        [stmt, rest @ ..] => {
+            is_in(Part::Task, &stmt.what) && is_body(Part::Operation, behind(Part::Access, rest))
+        }
+    }
+}
+
+/// Whether the statements are of form one: `array` lines, `show` lines, and at most one task, which fills cells of one `out` access.
+#[tactic(auto, unfolding(crate::specs::Forms::is_form_one))]
+pub fn is_form_one(stmts: &[Stmt]) -> bool
+    ensures { result ≡ is_form_one stmts.now }
+{
+    is_plain_task(behind(Part::Show, behind(Part::Array, stmts)))
+}
+
+/// Whether the statements are of form two: `array` lines, `show` lines, and at most one task.
+#[tactic(auto, unfolding(crate::specs::Forms::is_form_two))]
+pub fn is_form_two(stmts: &[Stmt]) -> bool
+    ensures { result ≡ is_form_two stmts.now }
+{
+    is_one_task(behind(Part::Show, behind(Part::Array, stmts)))
+}
