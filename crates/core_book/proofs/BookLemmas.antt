@@ -19,6 +19,7 @@ use Rattle.rt_base.specs.Exchange.{Exchange, silent}
 use Rattle.rt_base.specs.State.{State, Task, is_released, let_go, let_go_at}
 use Rattle.rt_base.specs.MayMove.{MayMove}
 use Rattle.rt_base.specs.WellFormed.{WellFormed}
+use Rattle.match_engine.specs.Switch.{Switch}
 use Rattle.region_deps.specs.Readiness.{Readiness, IsWhole, IsStartable, untouched}
 use Rattle.task_local.specs.Regions.{loaded, saved}
 use Rattle.rt_base.specs.declared.data.Op.{Op}
@@ -64,7 +65,7 @@ kept_as p w es es' ss ss' m m' phs phs' x x' ns ns' g h h' a b c is_es is_ss is_
     (subst (λ (z : List Bool). IsKept p w es ss m phs x ns g z a b c) (sym is_h) k))))))
 
 -- a book after a move of a task: its fields are those of the state after the move
-pub record Follows (p : Program) (t : ℕ) (now : Task) (new : State) (e : Entry) (ready ready' : Readiness) (phases phases' : List Phase) (memory' : List ℤ) (exchange' : Exchange) (notices' : List ReqNo)
+pub record Follows (p : Program) (t : ℕ) (now : Task) (new : State) (e : Entry) (ready ready' : Readiness) (phases phases' : List Phase) (memory' : List ℤ) (engine engine' : Switch) (notices' : List ReqNo)
     (entries entries' : List Entry) (statuses' : List Status) (a b c a' b' c' : ℕ) : Type 0 where
   pub handed : slice_get ready.handed t ≡ Some true
   pub handed' : ready'.handed ≡ ready.handed
@@ -73,7 +74,8 @@ pub record Follows (p : Program) (t : ℕ) (now : Task) (new : State) (e : Entry
   pub whole' : IsWhole ready'
   pub phases_are : phases' ≡ slice_set phases t now.phase
   pub memory_is : memory' ≡ new.memory
-  pub exchange_is : exchange' ≡ new.exchange
+  pub engine_of' : engine'.program ≡ engine.program
+  pub exchange_is : engine'.exchange ≡ new.exchange
   pub notices_are : notices' ≡ new.notices
   pub entries_are : entries' ≡ entries ++ e ∷ []
   pub statuses_are : statuses' ≡ new.statuses
@@ -81,17 +83,18 @@ pub record Follows (p : Program) (t : ℕ) (now : Task) (new : State) (e : Entry
   pub status_places : b ≤ b'
   pub notice_places : c ≤ c'
 
-pub book_after : (p : Program) (w : ℕ) (ready ready' : Readiness) (m m' : List ℤ) (phs phs' : List Phase) (x x' : Exchange) (ns ns' : List ReqNo) (es es' : List Entry) (ss ss' : List Status) (a b c a' b' c' : ℕ)
+pub book_after : (p : Program) (w : ℕ) (ready ready' : Readiness) (m m' : List ℤ) (phs phs' : List Phase) (x x' : Switch) (ns ns' : List ReqNo) (es es' : List Entry) (ss ss' : List Status) (a b c a' b' c' : ℕ)
     (t : ℕ) (def : TaskDef) (was now : Task) (new : State) (e : Entry)
-    → IsBook p w ready m phs x ns es ss a b c → Changes p (final p es) t def was now new e → Follows p t now new e ready ready' phs phs' m' x' ns' es es' ss' a b c a' b' c'
+    → IsBook p w ready m phs x ns es ss a b c → Changes p (final p es) t def was now new e → Follows p t now new e ready ready' phs phs' m' x x' ns' es es' ss' a b c a' b' c'
     → IsBook p w ready' m' phs' x' ns' es' ss' a' b' c'
 book_after p w ready ready' m m' phs phs' x x' ns ns' es es' ss ss' a b c a' b' c' t def was now new e book changes f = record {
-  kept = kept_as p w (es ++ e ∷ []) es' new.statuses ss' new.memory m' (slice_set phs t now.phase) phs' new.exchange x' new.notices ns' ready'.gone ready.handed ready'.handed a' b' c'
+  kept = kept_as p w (es ++ e ∷ []) es' new.statuses ss' new.memory m' (slice_set phs t now.phase) phs' new.exchange x'.exchange new.notices ns' ready'.gone ready.handed ready'.handed a' b' c'
     f.entries_are f.statuses_are f.memory_is f.phases_are f.exchange_is f.notices_are f.handed'
     (kept_roomier p w (es ++ e ∷ []) new.statuses new.memory (slice_set phs t now.phase) new.exchange new.notices ready'.gone ready.handed a b c a' b' c' f.entry_places f.status_places f.notice_places
-      (kept_after p w es ss new.statuses m phs x ns ready.gone ready'.gone ready.handed a b c t def was now new e book.kept changes refl f.handed f.gone'));
+      (kept_after p w es ss new.statuses m phs x.exchange ns ready.gone ready'.gone ready.handed a b c t def was now new e book.kept changes refl f.handed f.gone'));
   of_program = f.of_program' ∙ book.of_program;
-  whole = f.whole' }
+  whole = f.whole';
+  engine_of = f.engine_of' ∙ book.engine_of }
 
 -- the end of the body
 advanced_past : (def : TaskDef) (k : ℕ) (copy : List ℤ) → length def.body.items ≤ k → advanced def k copy ≡ copy
@@ -112,7 +115,7 @@ pub stands_before : (def : TaskDef) (k : ℕ) (copy : List ℤ) (task : Task) �
 stands_before def k copy task at copied = stands_if def k copy task (ltb k (length def.body.items)) (ltb-false k (length def.body.items)) at copied
 
 -- the released marks of a task that holds its regions
-pub still_held : (p : Program) (w : ℕ) (ready : Readiness) (m : List ℤ) (phs : List Phase) (x : Exchange) (ns : List ReqNo) (es : List Entry) (ss : List Status) (a b c : ℕ) (t : ℕ) (was : Task)
+pub still_held : (p : Program) (w : ℕ) (ready : Readiness) (m : List ℤ) (phs : List Phase) (x : Switch) (ns : List ReqNo) (es : List Entry) (ss : List Status) (a b c : ℕ) (t : ℕ) (was : Task)
     → IsBook p w ready m phs x ns es ss a b c → slice_get (final p es).tasks t ≡ Some was → is_released was.phase ≡ false → slice_get ready.gone.released t ≡ Some false
 still_held p w ready m phs x ns es ss a b c t was book is_task held =
     ap (λ (z : List Bool). slice_get z t) (book.kept.gone_is ∙ ap (λ (z : List Phase). map is_released z) book.kept.phases_are)
@@ -177,7 +180,7 @@ few_operations p t def well is_def =
     omega arith
 
 -- a task that may still move has room for its entry
-pub room_for_entry : (p : Program) (w : ℕ) (ready : Readiness) (m : List ℤ) (phs : List Phase) (x : Exchange) (ns : List ReqNo) (es : List Entry) (ss : List Status) (a b c : ℕ) (t : ℕ) (def : TaskDef) (was : Task)
+pub room_for_entry : (p : Program) (w : ℕ) (ready : Readiness) (m : List ℤ) (phs : List Phase) (x : Switch) (ns : List ReqNo) (es : List Entry) (ss : List Status) (a b c : ℕ) (t : ℕ) (def : TaskDef) (was : Task)
     → IsBook p w ready m phs x ns es ss a b c → slice_get p.tasks.items t ≡ Some def → slice_get (final p es).tasks t ≡ Some was → 0 < moves_left (length def.body.items) was.phase
     → (length es < a) × (length ss < b) × (length ns < c)
 room_for_entry p w ready m phs x ns es ss a b c t def was book is_def is_task some =
@@ -194,7 +197,7 @@ unfolding stop
 stop_is_held def k = stop_held k (drop k def.body.items)
 
 -- what a start owes: the book and the record after it
-pub start_book : (p : Program) (w : ℕ) (ready : Readiness) (m : List ℤ) (phs : List Phase) (x : Exchange) (ns : List ReqNo) (es es' : List Entry) (ss : List Status) (a b c a' : ℕ)
+pub start_book : (p : Program) (w : ℕ) (ready : Readiness) (m : List ℤ) (phs : List Phase) (x : Switch) (ns : List ReqNo) (es es' : List Entry) (ss : List Status) (a b c a' : ℕ)
     (t : ℕ) (def : TaskDef) (at : Phase)
     → IsBook p w ready m phs x ns es ss a b c → (was : Task) → slice_get p.tasks.items t ≡ Some def → slice_get (final p es).tasks t ≡ Some was → was.phase ≡ phase.Waiting
     → MayMove p (final p es) t → slice_get ready.handed t ≡ Some true → at ≡ stop def 0 → es' ≡ es ++ entry.Start (task_no t) ∷ [] → a ≤ a'
@@ -213,6 +216,7 @@ start_book p w ready m phs x ns es es' ss a b c a' t def at book was is_def is_t
         whole' = book.whole;
         phases_are = ap (slice_set phs t) stops;
         memory_is = book.kept.memory_is;
+        engine_of' = refl;
         exchange_is = book.kept.exchange_is;
         notices_are = book.kept.notices_are;
         entries_are = grown;
@@ -282,7 +286,7 @@ makes_move p w es es' ss ss' handed handed' before after t def was now new e cha
 pub is_waiting : (p : Program) (es : List Entry) (held : Record) (a : Asked p es held) → held.phase ≡ phase.Waiting → a.stands.task.phase ≡ phase.Waiting
 is_waiting p es held a fresh = subst (λ (at : Phase). StandsAs a.stands.def at held.copy a.stands.task) fresh a.stands.stands
 
-pub start_invariant : (p prog : Program) (w : ℕ) (ready : Readiness) (m : List ℤ) (phs : List Phase) (x : Exchange) (ns : List ReqNo) (es es' : List Entry) (ss : List Status) (a b c a' : ℕ)
+pub start_invariant : (p prog : Program) (w : ℕ) (ready : Readiness) (m : List ℤ) (phs : List Phase) (x : Switch) (ns : List ReqNo) (es es' : List Entry) (ss : List Status) (a b c a' : ℕ)
     (held : Record) (t : ℕ) (def : TaskDef) (at : Phase)
     → IsBook p w ready m phs x ns es ss a b c → prog ≡ p → Asked p es held → slice_get ready.handed held.task ≡ Some true → held.phase ≡ phase.Waiting → t ≡ held.task → slice_get prog.tasks.items t ≡ Some def
     → at ≡ stop def 0 → es' ≡ es ++ entry.Start (task_no t) ∷ [] → a ≤ a' → IsBook p w ready m (slice_set phs t at) x ns es' ss a' b c
@@ -291,7 +295,7 @@ start_invariant p prog w ready m phs x ns es es' ss a b c a' held t def at book 
       (ap (slice_get (final p es).tasks) who ∙ ask.stands.is_task) (is_waiting p es held ask fresh) (subst (MayMove p (final p es)) (sym who) ask.may)
       (ap (slice_get ready.handed) who ∙ mine) stops grown more
 
-pub start_makes : (p prog : Program) (w : ℕ) (ready : Readiness) (m : List ℤ) (phs : List Phase) (x : Exchange) (ns : List ReqNo) (es es' : List Entry) (ss : List Status) (a b c : ℕ)
+pub start_makes : (p prog : Program) (w : ℕ) (ready : Readiness) (m : List ℤ) (phs : List Phase) (x : Switch) (ns : List ReqNo) (es es' : List Entry) (ss : List Status) (a b c : ℕ)
     (held loaded_held after : Record) (t : ℕ) (def : TaskDef) (at : Phase) (memory : List ℤ)
     → IsBook p w ready m phs x ns es ss a b c → prog ≡ p → Asked p es held → held.phase ≡ phase.Waiting → t ≡ held.task → slice_get prog.tasks.items t ≡ Some def
     → es' ≡ es ++ entry.Start (task_no t) ∷ [] → memory ≡ m → loaded_held ≡ record held { copy = loaded prog (def_of held.program held.task) memory } → at ≡ phase_before def 0
@@ -312,27 +316,28 @@ start_makes p prog w ready m phs x ns es es' ss a b c held loaded_held after t d
       who grown book.kept.legal.told refl (ap (λ (z : Record). z.task) whole) (ap (λ (z : Record). z.program) whole ∙ ask.stands.same)
       (subst (λ (z : Record). StandsAs def z.phase z.copy now) (sym whole) (stands_before def 0 (loaded p def s.memory) now refl refl)) l view
 
-pub room_at_start : (p : Program) (w : ℕ) (ready : Readiness) (m : List ℤ) (phs : List Phase) (x : Exchange) (ns : List ReqNo) (es : List Entry) (ss : List Status) (a b c : ℕ) (held : Record)
+pub room_at_start : (p : Program) (w : ℕ) (ready : Readiness) (m : List ℤ) (phs : List Phase) (x : Switch) (ns : List ReqNo) (es : List Entry) (ss : List Status) (a b c : ℕ) (held : Record)
     → IsBook p w ready m phs x ns es ss a b c → Asked p es held → held.phase ≡ phase.Waiting → length es < a
 room_at_start p w ready m phs x ns es ss a b c held book ask fresh =
     let left : moves_left (length ask.stands.def.body.items) ask.stands.task.phase ≡ 2 * length ask.stands.def.body.items + 3 = ap (moves_left (length ask.stands.def.body.items)) (is_waiting p es held ask fresh) in
     (room_for_entry p w ready m phs x ns es ss a b c held.task ask.stands.def ask.stands.task book ask.stands.is_def ask.stands.is_task (omega arith)).0
 
 -- a new book
-pub new_book : (p : Program) (w : ℕ) (ready : Readiness) (m : List ℤ) (phs : List Phase) (ns : List ReqNo) (es : List Entry) (ss : List Status) (a b c : ℕ)
-    → WellFormed p → ready ≡ untouched p → IsWhole ready → m ≡ replicate (memory_len p) (pos 0) → phs ≡ replicate (length p.tasks.items) phase.Waiting → ns ≡ [] → es ≡ [] → ss ≡ []
-    → most_moves p.tasks.items ≤ a → most_moves p.tasks.items ≤ b → most_moves p.tasks.items ≤ c → IsBook p w ready m phs (silent p.ranks) ns es ss a b c
-new_book p w ready m phs ns es ss a b c well fresh whole is_m is_phs is_ns is_es is_ss room_a room_b room_c =
+pub new_book : (p : Program) (w : ℕ) (ready : Readiness) (m : List ℤ) (phs : List Phase) (x : Switch) (ns : List ReqNo) (es : List Entry) (ss : List Status) (a b c : ℕ)
+    → WellFormed p → ready ≡ untouched p → IsWhole ready → x.program ≡ p → x.exchange ≡ silent p.ranks → m ≡ replicate (memory_len p) (pos 0) → phs ≡ replicate (length p.tasks.items) phase.Waiting → ns ≡ [] → es ≡ [] → ss ≡ []
+    → most_moves p.tasks.items ≤ a → most_moves p.tasks.items ≤ b → most_moves p.tasks.items ≤ c → IsBook p w ready m phs x ns es ss a b c
+new_book p w ready m phs x ns es ss a b c well fresh whole of_engine quiet is_m is_phs is_ns is_es is_ss room_a room_b room_c =
     let left = all_left_at_opening p.tasks.items in
     record {
-      kept = kept_as p w [] es [] ss (replicate (memory_len p) (pos 0)) m (replicate (length p.tasks.items) phase.Waiting) phs (silent p.ranks) (silent p.ranks) [] ns ready.gone ready.handed ready.handed a b c
-        is_es is_ss is_m is_phs refl is_ns refl
+      kept = kept_as p w [] es [] ss (replicate (memory_len p) (pos 0)) m (replicate (length p.tasks.items) phase.Waiting) phs (silent p.ranks) x.exchange [] ns ready.gone ready.handed ready.handed a b c
+        is_es is_ss is_m is_phs quiet is_ns refl
         (kept_at_opening p w ready.gone ready.handed a b c well (ap (λ (r : Readiness). r.gone.released) fresh) (omega arith) (omega arith) (omega arith));
       of_program = ap (λ (r : Readiness). r.program) fresh;
-      whole = whole }
+      whole = whole;
+      engine_of = of_engine }
 
 -- what the graph says of a task is what the machine's state says of it
-gone_of : (p : Program) (w : ℕ) (ready : Readiness) (m : List ℤ) (phs : List Phase) (x : Exchange) (ns : List ReqNo) (es : List Entry) (ss : List Status) (a b c : ℕ)
+gone_of : (p : Program) (w : ℕ) (ready : Readiness) (m : List ℤ) (phs : List Phase) (x : Switch) (ns : List ReqNo) (es : List Entry) (ss : List Status) (a b c : ℕ)
     → IsBook p w ready m phs x ns es ss a b c → ready.gone ≡ let_go (final p es).tasks
 gone_of p w ready m phs x ns es ss a b c book =
     ap (λ (r : List Bool). record { released = r }) (book.kept.gone_is ∙ ap (λ (z : List Phase). map is_released z) book.kept.phases_are)
@@ -340,7 +345,7 @@ gone_of p w ready m phs x ns es ss a b c book =
 abbrev MayBeHanded : List Bool → Program → LetGo → ℕ → Type 0
 MayBeHanded handed p gone t = (slice_get handed t ≡ Some false) × MayStart p gone t
 
-pub is_ready : (p : Program) (w : ℕ) (ready : Readiness) (m : List ℤ) (phs : List Phase) (x : Exchange) (ns : List ReqNo) (es : List Entry) (ss : List Status) (a b c : ℕ)
+pub is_ready : (p : Program) (w : ℕ) (ready : Readiness) (m : List ℤ) (phs : List Phase) (x : Switch) (ns : List ReqNo) (es : List Entry) (ss : List Status) (a b c : ℕ)
     → IsBook p w ready m phs x ns es ss a b c → (l : Ledger) → record { program = p; workers = w; history = es; statuses = ss; handed = ready.handed } ≡ l
     → (t : ℕ) → IsStartable ready t → IsReady l t
 is_ready p w ready m phs x ns es ss a b c book l view t startable =
@@ -348,7 +353,7 @@ is_ready p w ready m phs x ns es ss a b c book l view t startable =
       (subst (λ (g : LetGo). MayBeHanded ready.handed p g t) (gone_of p w ready m phs x ns es ss a b c book)
         (subst (λ (q : Program). MayBeHanded ready.handed q ready.gone t) book.of_program startable))
 
-pub is_startable : (p : Program) (w : ℕ) (ready : Readiness) (m : List ℤ) (phs : List Phase) (x : Exchange) (ns : List ReqNo) (es : List Entry) (ss : List Status) (a b c : ℕ)
+pub is_startable : (p : Program) (w : ℕ) (ready : Readiness) (m : List ℤ) (phs : List Phase) (x : Switch) (ns : List ReqNo) (es : List Entry) (ss : List Status) (a b c : ℕ)
     → IsBook p w ready m phs x ns es ss a b c → (l : Ledger) → record { program = p; workers = w; history = es; statuses = ss; handed = ready.handed } ≡ l
     → (t : ℕ) → IsReady l t → IsStartable ready t
 is_startable p w ready m phs x ns es ss a b c book l view t here =
@@ -356,13 +361,13 @@ is_startable p w ready m phs x ns es ss a b c book l view t here =
     subst (λ (q : Program). MayBeHanded ready.handed q ready.gone t) (sym book.of_program)
       (subst (λ (g : LetGo). MayBeHanded ready.handed p g t) (sym (gone_of p w ready m phs x ns es ss a b c book)) own)
 
-pub ready_found : (p : Program) (w : ℕ) (ready : Readiness) (m : List ℤ) (phs : List Phase) (x : Exchange) (ns : List ReqNo) (es : List Entry) (ss : List Status) (a b c : ℕ)
+pub ready_found : (p : Program) (w : ℕ) (ready : Readiness) (m : List ℤ) (phs : List Phase) (x : Switch) (ns : List ReqNo) (es : List Entry) (ss : List Status) (a b c : ℕ)
     → IsBook p w ready m phs x ns es ss a b c → (l : Ledger) → record { program = p; workers = w; history = es; statuses = ss; handed = ready.handed } ≡ l
     → (found : Option TaskNo) → IfSome found (λ t. IsStartable ready t.0) → IfSome found (λ t. IsReady l t.0)
 ready_found p w ready m phs x ns es ss a b c book l view None startable = tt
 ready_found p w ready m phs x ns es ss a b c book l view (Some t) startable = is_ready p w ready m phs x ns es ss a b c book l view t.0 startable
 
-pub ready_none : (p : Program) (w : ℕ) (ready : Readiness) (m : List ℤ) (phs : List Phase) (x : Exchange) (ns : List ReqNo) (es : List Entry) (ss : List Status) (a b c : ℕ)
+pub ready_none : (p : Program) (w : ℕ) (ready : Readiness) (m : List ℤ) (phs : List Phase) (x : Switch) (ns : List ReqNo) (es : List Entry) (ss : List Status) (a b c : ℕ)
     → IsBook p w ready m phs x ns es ss a b c → (l : Ledger) → record { program = p; workers = w; history = es; statuses = ss; handed = ready.handed } ≡ l
     → (found : Option TaskNo) → IfNone found ((t : ℕ) → ¬ IsStartable ready t) → IfNone found ((t : ℕ) → ¬ IsReady l t)
 ready_none p w ready m phs x ns es ss a b c book l view None nothing = λ t here. nothing t (is_startable p w ready m phs x ns es ss a b c book l view t here)
@@ -382,7 +387,7 @@ still_handed_out ready ready' None u more same here = ap (λ (r : Readiness). sl
 still_handed_out ready ready' (Some t) u more same here = ap (λ (z : List Bool). slice_get z u) more ∙ still_handed ready.handed t.0 u here
 
 -- the book after a task was handed out
-pub ready_book : (p : Program) (w : ℕ) (ready ready' : Readiness) (m : List ℤ) (phs : List Phase) (x : Exchange) (ns : List ReqNo) (es : List Entry) (ss : List Status) (a b c : ℕ) (found : Option TaskNo)
+pub ready_book : (p : Program) (w : ℕ) (ready ready' : Readiness) (m : List ℤ) (phs : List Phase) (x : Switch) (ns : List ReqNo) (es : List Entry) (ss : List Status) (a b c : ℕ) (found : Option TaskNo)
     → IsBook p w ready m phs x ns es ss a b c → ready'.program ≡ ready.program → ready'.gone ≡ ready.gone → IsWhole ready'
     → IfSome found (λ t. ready'.handed ≡ slice_set ready.handed t.0 true) → IfNone found (ready' ≡ ready) → IsBook p w ready' m phs x ns es ss a b c
 ready_book p w ready ready' m phs x ns es ss a b c found book programs gone whole more same =
@@ -394,4 +399,5 @@ ready_book p w ready ready' m phs x ns es ss a b c found book programs gone whol
         begun = λ u at here started. still_handed_out ready ready' found u more same (k.begun u at here started);
         entry_room = k.entry_room; status_room = k.status_room; notice_room = k.notice_room };
       of_program = programs ∙ book.of_program;
-      whole = whole }
+      whole = whole;
+      engine_of = book.engine_of }

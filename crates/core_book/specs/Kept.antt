@@ -16,6 +16,7 @@ use Rattle.rt_base.specs.Exchange.{Exchange}
 use Rattle.rt_base.specs.Completion.{is_posted}
 use Rattle.rt_base.specs.State.{State, Task, let_go_at}
 use Rattle.rt_base.specs.WellFormed.{WellFormed}
+use Rattle.match_engine.specs.Switch.{Switch}
 use Rattle.region_deps.specs.Readiness.{Readiness, IsWhole}
 use Rattle.core_book.specs.Legal.{IsLegal, final}
 
@@ -78,9 +79,10 @@ is_local (op.Await later handles status) = false
 abbrev pub most_moves : List TaskDef → ℕ
 most_moves defs = sum_by (λ (def : TaskDef). 2 * length def.body.items + 3) defs
 
--- a book: its fields are the state after its history, and its dependency graph is that of its program
-pub record IsBook (program : Program) (workers : ℕ) (ready : Readiness) (memory : List ℤ) (phases : List Phase) (exchange : Exchange) (notices : List ReqNo)
+-- a book: its fields are the state after its history, and its dependency graph and its engine are those of its program
+pub record IsBook (program : Program) (workers : ℕ) (ready : Readiness) (memory : List ℤ) (phases : List Phase) (engine : Switch) (notices : List ReqNo)
     (entries : List Entry) (statuses : List Status) (entry_places status_places notice_places : ℕ) : Type 0 where
-  pub kept : IsKept program workers entries statuses memory phases exchange notices ready.gone ready.handed entry_places status_places notice_places
+  pub kept : IsKept program workers entries statuses memory phases engine.exchange notices ready.gone ready.handed entry_places status_places notice_places
   pub of_program : ready.program ≡ program
   pub whole : IsWhole ready
+  pub engine_of : engine.program ≡ program

@@ -11,6 +11,7 @@ ghost use Rattle.core_book.specs.Ledger.{MakesMove, IsReady, new_ledger};
 use crate::room::{all_waiting, cell_count, most_moves, note, zeros};
 use region_deps::Deps;
 use crate::tasks::{phase_before, stop, task_of};
+use match_engine::Engine;
 use task_local::TaskRec;
 use rt_base::{Entry, Phase, Program, ReqNo, Status, TaskNo};
 use std::alloc::{AllocError, Global};
@@ -24,6 +25,7 @@ pub struct Book {
     program: Snapshot<Program>,
     workers: u16,
     deps: Deps,
+    engine: Engine,
     memory: Vec<i64>,
     phases: Vec<Phase>,
     notices: Vec<ReqNo>,
@@ -33,7 +35,6 @@ pub struct Book {
 
 impl Model for Book {
     ghost use Rattle.std.specs.Prelude.{vec_capacity};
-    ghost use Rattle.rt_base.specs.Exchange.{silent};
     ghost use Rattle.core_book.specs.Ledger.{Ledger};
     ghost use Rattle.core_book.specs.Kept.{IsBook};
 
@@ -42,7 +43,7 @@ impl Model for Book {
     ghost view = { λ b. record {
         program = b.program.value; workers = b.workers; history = b.entries.items; statuses = b.statuses.items; handed = b.deps.handed } };
 
-    ghost invariant = { λ b. IsBook b.program.value b.workers b.deps b.memory.items b.phases.items (silent b.program.value.ranks) b.notices.items
+    ghost invariant = { λ b. IsBook b.program.value b.workers b.deps b.memory.items b.phases.items b.engine b.notices.items
         b.entries.items b.statuses.items (vec_capacity b.entries) (vec_capacity b.statuses) (vec_capacity b.notices) };
 }
 
@@ -58,6 +59,7 @@ impl Book {
             program: Snapshot::of(prog),
             workers,
             deps: Deps::build(alloc, prog)?,
+            engine: Engine::build(alloc, prog)?,
             memory: zeros(alloc, cell_count(prog.lens.as_slice()) as usize)?,
             phases: all_waiting(alloc, prog.tasks.len())?,
             notices: Vec::with_capacity(alloc, moves)?,

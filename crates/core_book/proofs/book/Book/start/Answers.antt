@@ -9,7 +9,7 @@ stop-requires-clause-few c = few_operations c.args.prog.now c.task-task.result.0
 pub note-requires : goal.note-requires
 note-requires c =
     let b = c.self.inside in
-    room_at_start b.program.value b.workers b.deps b.memory.items b.phases.items _ b.notices.items b.entries.items b.statuses.items _ _ _ c.args.rec.now c.self.invariant
+    room_at_start b.program.value b.workers b.deps b.memory.items b.phases.items b.engine b.notices.items b.entries.items b.statuses.items _ _ _ c.args.rec.now c.self.invariant
       (asked c.args.self.now b.program.value c.args.prog.now b.workers b.entries.items b.statuses.items b.deps.handed c.args.rec.now c.self.view_is c.requires.same c.requires.stands c.requires.enabled)
       c.requires.fresh
 
@@ -17,7 +17,7 @@ pub invariant_of-self : goal.invariant_of-self
 invariant_of-self c =
     let b = c.self.inside in
     let l = c.args.self.now in
-    start_invariant b.program.value c.args.prog.now b.workers b.deps b.memory.items b.phases.items _ b.notices.items b.entries.items c.note.new.list.items b.statuses.items _ _ _ _
+    start_invariant b.program.value c.args.prog.now b.workers b.deps b.memory.items b.phases.items b.engine b.notices.items b.entries.items c.note.new.list.items b.statuses.items _ _ _ _
       c.args.rec.now c.task-task.result.0 c.task_of-def.result.now c.stop.result c.self.invariant
       (same_program l b.program.value c.args.prog.now b.workers b.entries.items b.statuses.items b.deps.handed c.self.view_is c.requires.same)
       (asked l b.program.value c.args.prog.now b.workers b.entries.items b.statuses.items b.deps.handed c.args.rec.now c.self.view_is c.requires.same c.requires.stands c.requires.enabled)
@@ -28,7 +28,7 @@ pub returns : goal.returns
 returns c =
     let b = c.self.inside in
     let l = c.args.self.now in
-    start_makes b.program.value c.args.prog.now b.workers b.deps b.memory.items b.phases.items _ b.notices.items b.entries.items c.note.new.list.items b.statuses.items _ _ _
+    start_makes b.program.value c.args.prog.now b.workers b.deps b.memory.items b.phases.items b.engine b.notices.items b.entries.items c.note.new.list.items b.statuses.items _ _ _
       c.args.rec.now c.load.new.self c.go.new.self c.task-task.result.0 c.task_of-def.result.now c.phase_before.result c.deref.result.now c.self.invariant
       (same_program l b.program.value c.args.prog.now b.workers b.entries.items b.statuses.items b.deps.handed c.self.view_is c.requires.same)
       (asked l b.program.value c.args.prog.now b.workers b.entries.items b.statuses.items b.deps.handed c.args.rec.now c.self.view_is c.requires.same c.requires.stands c.requires.enabled)
