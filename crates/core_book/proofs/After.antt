@@ -152,6 +152,7 @@ kept_after p workers es old told memory phases exchange notices gone gone' hande
       gone_is = freed ∙ ap (λ (xs : List Bool). slice_set xs t (is_released now.phase)) kept.gone_is ∙ sym (map-set is_released phases t now.phase);
       orderly = subst (IsOrderly p) (sym end) (orderly_after p (final p es) t def was now new e kept.orderly c);
       begun = λ u at here started. begun_after phases handed t u now.phase at kept.begun mine here started;
+      few_statuses = few_more (length old) (length told) _ _ _ (told_more p es old told new workers kept.legal c.told statuses) left kept.few_statuses;
       entry_room = one_fewer es e _ _ _ left kept.entry_room;
       status_room = few_more (length old) (length told) _ _ _ (told_more p es old told new workers kept.legal c.told statuses) left kept.status_room;
       notice_room = few_more (length notices) (length new.notices) _ _ _ (noticed_more p es new notices kept.notices_are c.noticed) left kept.notice_room }

@@ -49,7 +49,7 @@ kept_roomier : (p : Program) (w : ℕ) (es : List Entry) (ss : List Status) (m :
     → a ≤ a' → b ≤ b' → c ≤ c' → IsKept p w es ss m phs x ns g h a b c → IsKept p w es ss m phs x ns g h a' b' c'
 kept_roomier p w es ss m phs x ns g h a b c a' b' c' more_a more_b more_c k = record {
   well = k.well; legal = k.legal; memory_is = k.memory_is; phases_are = k.phases_are; exchange_is = k.exchange_is; notices_are = k.notices_are;
-  gone_is = k.gone_is; orderly = k.orderly; begun = k.begun;
+  gone_is = k.gone_is; orderly = k.orderly; begun = k.begun; few_statuses = k.few_statuses;
   entry_room = roomier _ a a' k.entry_room more_a; status_room = roomier _ b b' k.status_room more_b; notice_room = roomier _ c c' k.notice_room more_c }
 
 -- the same fields by other names
@@ -331,13 +331,13 @@ new_book p w ready m phs x ns es ss a b c well fresh whole of_engine quiet is_m 
     record {
       kept = kept_as p w [] es [] ss (replicate (memory_len p) (pos 0)) m (replicate (length p.tasks.items) phase.Waiting) phs (silent p.ranks) x.exchange [] ns ready.gone ready.handed ready.handed a b c
         is_es is_ss is_m is_phs quiet is_ns refl
-        (kept_at_opening p w ready.gone ready.handed a b c well (ap (λ (r : Readiness). r.gone.released) fresh) (omega arith) (omega arith) (omega arith));
+        (kept_at_opening p w ready.gone ready.handed a b c well (ap (λ (r : Readiness). r.gone.released) fresh) (omega arith) (omega arith) (omega arith) (omega arith));
       of_program = ap (λ (r : Readiness). r.program) fresh;
       whole = whole;
       engine_of = of_engine }
 
 -- what the graph says of a task is what the machine's state says of it
-gone_of : (p : Program) (w : ℕ) (ready : Readiness) (m : List ℤ) (phs : List Phase) (x : Switch) (ns : List ReqNo) (es : List Entry) (ss : List Status) (a b c : ℕ)
+pub gone_of : (p : Program) (w : ℕ) (ready : Readiness) (m : List ℤ) (phs : List Phase) (x : Switch) (ns : List ReqNo) (es : List Entry) (ss : List Status) (a b c : ℕ)
     → IsBook p w ready m phs x ns es ss a b c → ready.gone ≡ let_go (final p es).tasks
 gone_of p w ready m phs x ns es ss a b c book =
     ap (λ (r : List Bool). record { released = r }) (book.kept.gone_is ∙ ap (λ (z : List Phase). map is_released z) book.kept.phases_are)
@@ -397,7 +397,15 @@ ready_book p w ready ready' m phs x ns es ss a b c found book programs gone whol
         well = k.well; legal = k.legal; memory_is = k.memory_is; phases_are = k.phases_are; exchange_is = k.exchange_is; notices_are = k.notices_are;
         gone_is = ap (λ (g : LetGo). g.released) gone ∙ k.gone_is; orderly = k.orderly;
         begun = λ u at here started. still_handed_out ready ready' found u more same (k.begun u at here started);
-        entry_room = k.entry_room; status_room = k.status_room; notice_room = k.notice_room };
+        few_statuses = k.few_statuses; entry_room = k.entry_room; status_room = k.status_room; notice_room = k.notice_room };
       of_program = programs ∙ book.of_program;
       whole = whole;
       engine_of = book.engine_of }
+
+-- a book's statuses can be counted in 32 bits
+pub status_count : (p : Program) (w : ℕ) (ready : Readiness) (m : List ℤ) (phs : List Phase) (x : Switch) (ns : List ReqNo) (es : List Entry) (ss : List Status) (a b c : ℕ)
+    → IsBook p w ready m phs x ns es ss a b c → length ss < 2 ^ 32
+status_count p w ready m phs x ns es ss a b c book =
+    let few = few_moves p book.kept.well in
+    let told = book.kept.few_statuses in
+    omega arith

@@ -7,3 +7,5 @@ pub mod Stops
 pub mod Opening
 pub mod Changes
 pub mod BookLemmas
+pub mod BookMoves
+pub mod Questions

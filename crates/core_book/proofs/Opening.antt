@@ -11,7 +11,7 @@ use Rattle.rt_base.specs.Exchange.{silent}
 use Rattle.rt_base.specs.State.{Task, waiting_task, opening}
 use Rattle.rt_base.specs.WellFormed.{WellFormed}
 use Rattle.core_book.specs.Legal.{IsLegal, final}
-use Rattle.core_book.specs.Kept.{all_left, IsOrderly, IsKept}
+use Rattle.core_book.specs.Kept.{all_left, most_moves, IsOrderly, IsKept}
 
 -- what stands in a list of equal items
 pub in_replicate : {X : Type 0} (n : ℕ) (y : X) (i : ℕ) (x : X) → slice_get (replicate n y) i ≡ Some x → x ≡ y
@@ -33,11 +33,12 @@ opening_orderly p = record {
 -- the fields of a new book are the opening state
 pub kept_at_opening : (p : Program) (workers : ℕ) (gone : LetGo) (handed : List Bool) (entry_places status_places notice_places : ℕ) → WellFormed p
     → gone.released ≡ replicate (length p.tasks.items) false
+    → all_left p.tasks.items (replicate (length p.tasks.items) phase.Waiting) ≤ most_moves p.tasks.items
     → all_left p.tasks.items (replicate (length p.tasks.items) phase.Waiting) ≤ entry_places
     → all_left p.tasks.items (replicate (length p.tasks.items) phase.Waiting) ≤ status_places
     → all_left p.tasks.items (replicate (length p.tasks.items) phase.Waiting) ≤ notice_places
     → IsKept p workers [] [] (replicate (memory_len p) (pos 0)) (replicate (length p.tasks.items) phase.Waiting) (silent p.ranks) [] gone handed entry_places status_places notice_places
-kept_at_opening p workers gone handed entry_places status_places notice_places well released entries statuses notices = record {
+kept_at_opening p workers gone handed entry_places status_places notice_places well released few entries statuses notices = record {
   well = well;
   legal = record { runs = tt; replies = refl; told = refl };
   memory_is = refl;
@@ -47,6 +48,7 @@ kept_at_opening p workers gone handed entry_places status_places notice_places w
   gone_is = released ∙ sym (map-replicate _ (length p.tasks.items) phase.Waiting);
   orderly = opening_orderly p;
   begun = λ t at here started. absurd (started (in_replicate (length p.tasks.items) phase.Waiting t at here));
+  few_statuses = omega arith;
   entry_room = omega arith;
   status_room = omega arith;
   notice_room = omega arith }

@@ -3,6 +3,8 @@ use Rattle.std.specs.Prelude.{◌≡◌, ◌≢◌, ℕ, ◌+◌, ◌-◌, ◌*�
 use Rattle.rt_base.specs.declared.data.ReqNo.{ReqNo}
 use Rattle.rt_base.specs.declared.data.Phase.{Phase}
 use Rattle.rt_base.specs.declared.data.Phase.TheVariants as phase
+use Rattle.rt_base.specs.declared.data.Handle.{Handle}
+use Rattle.rt_base.specs.declared.data.Handle.TheVariants as handle
 use Rattle.rt_base.specs.declared.data.Op.{Op}
 use Rattle.rt_base.specs.declared.data.Op.TheVariants as op
 use Rattle.rt_base.specs.declared.data.Status.{Status}
@@ -13,7 +15,7 @@ use Rattle.rt_base.specs.Layout.{memory_len}
 use Rattle.rt_base.specs.Operations.{request, postings, nth_at}
 use Rattle.rt_base.specs.Precedes.{LetGo}
 use Rattle.rt_base.specs.Exchange.{Exchange}
-use Rattle.rt_base.specs.Completion.{is_posted}
+use Rattle.rt_base.specs.Completion.{is_posted, is_complete}
 use Rattle.rt_base.specs.State.{State, Task, let_go_at}
 use Rattle.rt_base.specs.WellFormed.{WellFormed}
 use Rattle.match_engine.specs.Switch.{Switch}
@@ -34,6 +36,10 @@ abbrev pub all_left : List TaskDef → List Phase → ℕ
 all_left [] phases = 0
 all_left (def ∷ defs) [] = 0
 all_left (def ∷ defs) (at ∷ phases) = moves_left (length def.body.items) at + all_left defs phases
+
+-- at most how many moves tasks make that wait
+abbrev pub most_moves : List TaskDef → ℕ
+most_moves defs = sum_by (λ (def : TaskDef). 2 * length def.body.items + 3) defs
 
 -- how many requests a task that stands there has posted
 abbrev pub posted_by_phase : TaskDef → Phase → ℕ
@@ -65,6 +71,7 @@ pub record IsKept (program : Program) (workers : ℕ) (entries : List Entry) (st
   pub gone_is : gone.released ≡ (let_go_at phases).released
   pub orderly : IsOrderly program (final program entries)
   pub begun : (t : ℕ) (at : Phase) → slice_get phases t ≡ Some at → at ≢ phase.Waiting → slice_get handed t ≡ Some true
+  pub few_statuses : length statuses + all_left program.tasks.items phases ≤ most_moves program.tasks.items
   pub entry_room : length entries + all_left program.tasks.items phases ≤ entry_places
   pub status_room : length statuses + all_left program.tasks.items phases ≤ status_places
   pub notice_room : length notices + all_left program.tasks.items phases ≤ notice_places
@@ -75,10 +82,6 @@ is_local (op.Compute kind dst left right value step) = true
 is_local (op.Post how span peer tag comm status) = false
 is_local (op.Await later handles status) = false
 
--- at most how many moves tasks make that wait
-abbrev pub most_moves : List TaskDef → ℕ
-most_moves defs = sum_by (λ (def : TaskDef). 2 * length def.body.items + 3) defs
-
 -- a book: its fields are the state after its history, and its dependency graph and its engine are those of its program
 pub record IsBook (program : Program) (workers : ℕ) (ready : Readiness) (memory : List ℤ) (phases : List Phase) (engine : Switch) (notices : List ReqNo)
     (entries : List Entry) (statuses : List Status) (entry_places status_places notice_places : ℕ) : Type 0 where
@@ -86,3 +89,8 @@ pub record IsBook (program : Program) (workers : ℕ) (ready : Readiness) (memor
   pub of_program : ready.program ≡ program
   pub whole : IsWhole ready
   pub engine_of : engine.program ≡ program
+
+-- what a handle of the task names is complete; the null request is
+abbrev pub is_complete_handle : Program → Exchange → ℕ → Handle → Bool
+is_complete_handle program exchange t handle.Null = true
+is_complete_handle program exchange t (handle.Nth n) = is_complete program exchange (request t n)

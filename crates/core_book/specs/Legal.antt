@@ -61,3 +61,7 @@ IsFinished state = All (λ (task : Task). task.phase ≡ phase.Released) state.t
 -- quiet, and not finished: the deadlock of the field
 abbrev pub IsStuck : Program → State → Type 0
 IsStuck program state = IsQuiet program state × (IsFinished state → ⊥)
+
+-- where each of the tasks stands
+abbrev pub phases_of : List Task → List Phase
+phases_of tasks = map (λ (task : Task). task.phase) tasks

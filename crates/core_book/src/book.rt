@@ -1,22 +1,31 @@
 //! The book: the machine's state after its history, and the moves that go on from it.
 
-ghost use Rattle.std.specs.Prelude.{◌≡◌, ◌≤◌, ◌<◌, true, false, ℕ, slice_get, slice_set, Some, IfOk, IfSome, IfNone};
+ghost use Rattle.std.specs.Prelude.{◌≡◌, ◌≤◌, ◌<◌, ◌↔◌, true, false, ℕ, IsTrue, length, slice_get, slice_set, Some, IfOk, IfSome, IfNone};
 ghost use Rattle.rt_base.specs.declared.data.Phase.TheVariants as phase;
 ghost use Rattle.rt_base.specs.WellFormed.{WellFormed};
 ghost use Rattle.rt_base.specs.MayMove.{MayMove};
 ghost use Rattle.task_local.specs.StandsFor.{StandsFor};
-ghost use Rattle.core_book.specs.Legal.{final};
+ghost use Rattle.core_book.specs.Legal.{final, phases_of, IsLegal, IsQuiet, IsFinished};
 ghost use Rattle.core_book.specs.Ledger.{MakesMove, IsReady, new_ledger};
 
-use crate::room::{all_waiting, cell_count, most_moves, note, zeros};
+use crate::room::{all_waiting, cell_count, count_of, most_moves, note, zeros};
 use region_deps::Deps;
-use crate::tasks::{phase_before, stop, task_of};
+use crate::tasks::{all_released, phase_before, stop, task_of};
+use crate::waits::may_leave;
 use match_engine::Engine;
 use task_local::TaskRec;
-use rt_base::{Entry, Phase, Program, ReqNo, Status, TaskNo};
+use rt_base::{Cells, Entry, History, Listed, Phase, Phases, Program, ReqNo, Status, TaskNo};
 use std::alloc::{AllocError, Global};
 use std::marker::Model;
 use std::snapshot::Snapshot;
+
+/// What is left of a book: the history, and the cells and the phases of the state after it.
+#[derive(Debug, Drop)]
+pub struct BookEnd {
+    pub history: History,
+    pub cells: Cells,
+    pub phases: Phases,
+}
 
 /// The machine that has a thread for each task, after the moves of its history. Contracts see the program, the history and
 /// which tasks were handed out; the state is the one after that history.
@@ -95,5 +104,108 @@ impl Book {
         rec.go(prog, phase_before(def, 0));
         self.phases[task.0 as usize] = stop(def, 0);
         note(&mut self.entries, Entry::Start { task });
+    }
+
+    /// The task returns: its body has ended. Takes no memory.
+    pub fn ret(&mut self, prog: &Program, rec: &mut TaskRec)
+        requires well_formed { WellFormed prog.now }
+        requires same { prog.now ≡ self.old.program }
+        requires stands { StandsFor prog.now rec.old (final prog.now self.old.history) }
+        requires ended { rec.old.phase ≡ phase.Ended }
+        ensures { MakesMove self.old self.new rec.old rec.new }
+    {
+        let phases = &mut self.phases;
+        let task = rec.task();
+        phases[task.0 as usize] = Phase::Returned;
+        rec.go(prog, Phase::Returned);
+        note(&mut self.entries, Entry::Return { task });
+    }
+
+    /// The task lets go of its accesses: its written cells are put back, and the tasks that waited for it may start.
+    /// Takes no memory. Its time grows with the task's cells.
+    pub fn release(&mut self, prog: &Program, rec: &mut TaskRec)
+        requires well_formed { WellFormed prog.now }
+        requires same { prog.now ≡ self.old.program }
+        requires stands { StandsFor prog.now rec.old (final prog.now self.old.history) }
+        requires returned { rec.old.phase ≡ phase.Returned }
+        requires enabled { MayMove prog.now (final prog.now self.old.history) rec.old.task }
+        ensures { MakesMove self.old self.new rec.old rec.new }
+    {
+        let memory = &mut self.memory;
+        let task = rec.task();
+        rec.save(prog, memory);
+        rec.go(prog, Phase::Released);
+        self.phases[task.0 as usize] = Phase::Released;
+        self.deps.release(task);
+        let from = count_of(&self.statuses);
+        note(&mut self.entries, Entry::Release { task, from, count: 0 });
+    }
+
+    /// Whether the task may make its next move. Takes no memory. Looks at all earlier tasks where it waits, and else at the requests that it awaits.
+    pub fn can_move(&self, prog: &Program, task: TaskNo) -> bool
+        requires well_formed { WellFormed prog.now }
+        requires same { prog.now ≡ self.now.program }
+        requires exists { task.0 < length prog.now.tasks.items }
+        ensures { IsTrue result ↔ MayMove prog.now (final prog.now self.now.history) task.0 }
+    {
+        let phases = &self.phases;
+        match phases[task.0 as usize] {
+            Phase::Waiting => self.deps.may_start(task),
+            Phase::At(_) => true,
+            Phase::In(k) => may_leave(&self.engine, task, task_of(prog, task), k),
+            Phase::Ended => true,
+            Phase::Returned => true,
+            Phase::Released => false,
+        }
+    }
+
+    /// Whether no task may move. Takes no memory. Looks at each task.
+    pub fn quiet(&self, prog: &Program) -> bool
+        requires well_formed { WellFormed prog.now }
+        requires same { prog.now ≡ self.now.program }
+        ensures { IsTrue result ↔ IsQuiet prog.now (final prog.now self.now.history) }
+    {
+        for t in 0..prog.tasks.len() {
+            if self.can_move(prog, TaskNo(t as u32)) {
+                return false;
+            }
+        }
+        true
+    }
+
+    /// Whether all tasks are released. Takes no memory. Looks at each task.
+    pub fn finished(&self) -> bool
+        ensures { IsTrue result ↔ IsFinished (final self.now.program self.now.history) }
+    {
+        all_released(&self.phases)
+    }
+
+    /// The history, with the cells and the phases of the state after it. Takes no memory.
+    pub fn into_end(self) -> BookEnd
+        ensures history { result.history.entries.items ≡ self.history }
+        ensures statuses { result.history.statuses.items ≡ self.statuses }
+        ensures legal { IsLegal self.program self.workers self.history self.statuses }
+        ensures cells { result.cells.items ≡ (final self.program self.history).memory }
+        ensures phases { result.phases.items ≡ phases_of (final self.program self.history).tasks }
+    {
+        let Book {
+            program: _,
+            workers: _,
+            deps: _,
+            engine: _,
+            memory,
+            phases,
+            notices: _,
+            entries,
+            statuses,
+        } = self;
+        BookEnd {
+            history: History {
+                entries: Listed::from_vec(entries),
+                statuses: Listed::from_vec(statuses),
+            },
+            cells: Listed::from_vec(memory),
+            phases: Listed::from_vec(phases),
+        }
     }
 }

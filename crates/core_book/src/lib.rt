@@ -4,5 +4,6 @@
 mod book;
 mod room;
 mod tasks;
+mod waits;
 
-pub use book::Book;
+pub use book::{Book, BookEnd};

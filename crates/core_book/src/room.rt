@@ -5,7 +5,7 @@ ghost use Rattle.rt_base.specs.declared.data.Phase.TheVariants as phase;
 ghost use Rattle.rt_base.specs.declared.data.TaskDef.{TaskDef};
 ghost use Rattle.core_book.specs.Kept.{most_moves};
 
-use rt_base::{Phase, TaskDef};
+use rt_base::{Phase, Status, TaskDef};
 use std::alloc::{AllocError, Global};
 
 // At most how many moves these tasks make.
@@ -38,6 +38,14 @@ pub(crate) fn note<T: Drop>(list: &mut Vec<T>, item: T)
         Ok(()) => {}
         Err(_) => unreachable!(),
     }
+}
+
+// How many statuses there are.
+pub(crate) fn count_of(statuses: &[Status]) -> u32
+    requires { length statuses.now < 2 ^ 32 }
+    ensures { result ≡ length statuses.now }
+{
+    statuses.len() as u32
 }
 
 // So many cells, all 0.

@@ -1,6 +1,7 @@
 //! Where a program's tasks are, and where a task stands after its local operations.
 
-ghost use Rattle.std.specs.Prelude.{◌≡◌, ◌≤◌, ◌<◌, ◌^◌, length, slice_get, Some};
+ghost use Rattle.std.specs.Prelude.{◌≡◌, ◌≤◌, ◌<◌, ◌^◌, ◌↔◌, length, slice_get, Some, All, IsTrue};
+ghost use Rattle.rt_base.specs.declared.data.Phase.TheVariants as phase;
 ghost use Rattle.task_local.specs.Local.{stop};
 ghost use Rattle.task_local.specs.Standing.{phase_before};
 ghost use Rattle.core_book.specs.Kept.{is_local};
@@ -52,4 +53,25 @@ pub(crate) fn stop(def: &TaskDef, k: u32) -> Phase
         at += 1;
     }
     Phase::Ended
+}
+
+// Whether all of these are released. Looks at each.
+pub(crate) fn all_released(phases: &[Phase]) -> bool
+    ensures { IsTrue result ↔ All (λ at. at ≡ phase.Released) phases.now }
+{
+    phases.iter().all(|at| is_released(*at))
+}
+
+// Whether the accesses of a task in this phase are let go.
+fn is_released(at: Phase) -> bool
+    ensures { IsTrue result ↔ (at ≡ phase.Released) }
+{
+    match at {
+        Phase::Waiting => false,
+        Phase::At(_) => false,
+        Phase::In(_) => false,
+        Phase::Ended => false,
+        Phase::Returned => false,
+        Phase::Released => true,
+    }
 }
