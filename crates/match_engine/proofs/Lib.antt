@@ -8,3 +8,5 @@ mod Course
 mod Calls
 mod Keeps
 mod Replies
+mod Orders
+mod Overtaking

@@ -43,7 +43,7 @@ asked_is_of req rank peer.Any selected comm = refl
 asked_is_of req rank peer.Null selected comm = tt
 
 pub posting_is_of : (kind : How) (req : ReqNo) (rank : ℕ) (whom : Peer) (selected : TagSel) (comm : ℕ) (cells : List ℤ)
-  → IsOf req (posting_by kind req rank whom selected comm cells)
+    → IsOf req (posting_by kind req rank whom selected comm cells)
 posting_is_of how.Send req rank whom selected comm cells = sent_is_of req rank whom selected comm cells
 posting_is_of how.Ssend req rank whom selected comm cells = sent_is_of req rank whom selected comm cells
 posting_is_of how.Recv req rank whom selected comm cells = asked_is_of req rank whom selected comm
@@ -72,7 +72,7 @@ or_none false = refl
 
 -- who is posted after a posting: who was, and the request itself
 pub posted_after : (exchange : Exchange) (req q : ReqNo) (posting : Posting)
-  → is_posted (exchange_after exchange req posting) q ≡ (is_posted exchange q || same_request q req)
+    → is_posted (exchange_after exchange req posting) q ≡ (is_posted exchange q || same_request q req)
 posted_after exchange req q posting =
     list_any-append (same_request q) exchange.posted (req ∷ []) ∙ ap (λ (b : Bool). list_any (same_request q) exchange.posted || b) (or_none (same_request q req))
 
@@ -89,16 +89,16 @@ image_of f (Some x) y is = (x, same_Some (f x) y is)
 
 -- the match of a posting has two parties: the request itself and its partner
 pub party_of_made : (exchange : Exchange) (req q : ReqNo) (posting : Posting) (made : Match) → IsOf req posting → match_made exchange posting ≡ Some made
-  → is_party q made ≡ (same_request req q || same_request (other_of posting made) q)
+    → is_party q made ≡ (same_request req q || same_request (other_of posting made) q)
 party_of_made exchange req q (Sent to message) made own is =
     let image = image_of (λ (found : Receive). match message found) _ made is in
     ap (λ (m : Message). same_request m.request q || same_request made.receive.request q) (sym (ap (λ (m : Match). m.message) image.1))
-      ∙ ap (λ (r : ReqNo). same_request r q || same_request made.receive.request q) own
+    ∙ ap (λ (r : ReqNo). same_request r q || same_request made.receive.request q) own
 party_of_made exchange req q (Asked at wish) made own is =
     let image = image_of (λ (found : Message). match found wish) _ made is in
     ap (λ (w : Receive). same_request made.message.request q || same_request w.request q) (sym (ap (λ (m : Match). m.receive) image.1))
-      ∙ ap (λ (r : ReqNo). same_request made.message.request q || same_request r q) own
-      ∙ or_swapped (same_request made.message.request q) (same_request req q)
+    ∙ ap (λ (r : ReqNo). same_request made.message.request q || same_request r q) own
+    ∙ or_swapped (same_request made.message.request q) (same_request req q)
 party_of_made exchange req q Nowhere made own is = absurd (none-some made is)
 
 some_of_either : {X : Type 0} (one other : Option X) → is_some (option_or one other) ≡ (is_some one || is_some other)
@@ -107,7 +107,7 @@ some_of_either (Some x) other = refl
 
 -- who is in a match after a posting: who was, and the parties of the match that it makes
 pub matched_after : (exchange : Exchange) (req q : ReqNo) (posting : Posting)
-  → is_some (match_with (exchange_after exchange req posting).matches q)
+    → is_some (match_with (exchange_after exchange req posting).matches q)
     ≡ (is_some (match_with exchange.matches q) || is_some (match_with (option_to_list (match_made exchange posting)) q))
 matched_after exchange req q posting =
     let new = option_to_list (match_made exchange posting) in
@@ -121,53 +121,53 @@ still true false false more most h = absurd (false≢true h)
 still false matched alone more most h = absurd (false≢true h)
 
 complete_still : (alone : Bool) (exchange : Exchange) (req q : ReqNo) (posting : Posting)
-  → (is_posted exchange q && (is_some (match_with exchange.matches q) || alone)) ≡ true
-  → (is_posted (exchange_after exchange req posting) q && (is_some (match_with (exchange_after exchange req posting).matches q) || alone)) ≡ true
+    → (is_posted exchange q && (is_some (match_with exchange.matches q) || alone)) ≡ true
+    → (is_posted (exchange_after exchange req posting) q && (is_some (match_with (exchange_after exchange req posting).matches q) || alone)) ≡ true
 complete_still alone exchange req q posting complete =
     ap (λ (b : Bool). b && (is_some (match_with (exchange_after exchange req posting).matches q) || alone)) (posted_after exchange req q posting)
-      ∙ ap (λ (b : Bool). (is_posted exchange q || same_request q req) && (b || alone)) (matched_after exchange req q posting)
-      ∙ still (is_posted exchange q) (is_some (match_with exchange.matches q)) alone (same_request q req)
-          (is_some (match_with (option_to_list (match_made exchange posting)) q)) complete
+    ∙ ap (λ (b : Bool). (is_posted exchange q || same_request q req) && (b || alone)) (matched_after exchange req q posting)
+    ∙ still (is_posted exchange q) (is_some (match_with exchange.matches q)) alone (same_request q req)
+    (is_some (match_with (option_to_list (match_made exchange posting)) q)) complete
 
 -- a complete request stays complete whatever is posted
 pub stays_complete : (program : Program) (exchange : Exchange) (req q : ReqNo) (cells : List ℤ)
-  → is_complete program exchange q ≡ true → is_complete program (post program exchange req cells) q ≡ true
+    → is_complete program exchange q ≡ true → is_complete program (post program exchange req cells) q ≡ true
 unfolding is_complete post
 stays_complete program exchange req q cells complete =
     complete_still (completes_alone program.eager (posting_of program q)) exchange req q (what_is_posted program req cells) complete
 
 -- who isn't a party of the match that a posting makes
 no_party : (exchange : Exchange) (req q : ReqNo) (posting : Posting) (made : Option Match) → IsOf req posting → match_made exchange posting ≡ made
-  → same_request req q ≡ false → IfSome (option_map (other_of posting) made) (λ other. same_request other q ≡ false)
-  → is_some (match_with (option_to_list made) q) ≡ false
+    → same_request req q ≡ false → IfSome (option_map (other_of posting) made) (λ other. same_request other q ≡ false)
+    → is_some (match_with (option_to_list made) q) ≡ false
 no_party exchange req q posting None own is apart others = refl
 no_party exchange req q posting (Some made) own is apart others =
     ap (λ (b : Bool). is_some (cond b (Some made) None))
-      (party_of_made exchange req q posting made own is ∙ or_from (same_request req q) (same_request (other_of posting made) q) apart others)
+    (party_of_made exchange req q posting made own is ∙ or_from (same_request req q) (same_request (other_of posting made) q) apart others)
 
 nothing_more : (posted matched alone more most : Bool) → more ≡ false → most ≡ false
-  → ((posted || more) && ((matched || most) || alone)) ≡ (posted && (matched || alone))
+    → ((posted || more) && ((matched || most) || alone)) ≡ (posted && (matched || alone))
 nothing_more posted matched alone more most no_more no_most =
     ap (λ (b : Bool). (posted || b) && ((matched || most) || alone)) no_more
-      ∙ ap (λ (b : Bool). (posted || false) && ((matched || b) || alone)) no_most
-      ∙ ap (λ (b : Bool). b && ((matched || false) || alone)) (or_none posted)
-      ∙ ap (λ (b : Bool). posted && (b || alone)) (or_none matched)
+    ∙ ap (λ (b : Bool). (posted || false) && ((matched || b) || alone)) no_most
+    ∙ ap (λ (b : Bool). b && ((matched || false) || alone)) (or_none posted)
+    ∙ ap (λ (b : Bool). posted && (b || alone)) (or_none matched)
 
 unchanged : (alone : Bool) (exchange : Exchange) (req q : ReqNo) (posting : Posting) → IsOf req posting → same_request req q ≡ false
-  → IfSome (partner_of exchange posting) (λ other. same_request other q ≡ false)
-  → (is_posted (exchange_after exchange req posting) q && (is_some (match_with (exchange_after exchange req posting).matches q) || alone))
+    → IfSome (partner_of exchange posting) (λ other. same_request other q ≡ false)
+    → (is_posted (exchange_after exchange req posting) q && (is_some (match_with (exchange_after exchange req posting).matches q) || alone))
     ≡ (is_posted exchange q && (is_some (match_with exchange.matches q) || alone))
 unchanged alone exchange req q posting own apart others =
     ap (λ (b : Bool). b && (is_some (match_with (exchange_after exchange req posting).matches q) || alone)) (posted_after exchange req q posting)
-      ∙ ap (λ (b : Bool). (is_posted exchange q || same_request q req) && (b || alone)) (matched_after exchange req q posting)
-      ∙ nothing_more (is_posted exchange q) (is_some (match_with exchange.matches q)) alone (same_request q req)
-          (is_some (match_with (option_to_list (match_made exchange posting)) q))
-          (same_request-comm q req ∙ apart) (no_party exchange req q posting (match_made exchange posting) own refl apart others)
+    ∙ ap (λ (b : Bool). (is_posted exchange q || same_request q req) && (b || alone)) (matched_after exchange req q posting)
+    ∙ nothing_more (is_posted exchange q) (is_some (match_with exchange.matches q)) alone (same_request q req)
+    (is_some (match_with (option_to_list (match_made exchange posting)) q))
+    (same_request-comm q req ∙ apart) (no_party exchange req q posting (match_made exchange posting) own refl apart others)
 
 -- a posting completes nothing but itself and its partner
 pub only_partner : (program : Program) (exchange : Exchange) (req q : ReqNo) (cells : List ℤ) → same_request req q ≡ false
-  → IfSome (partner program exchange req cells) (λ other. same_request other q ≡ false)
-  → is_complete program (post program exchange req cells) q ≡ is_complete program exchange q
+    → IfSome (partner program exchange req cells) (λ other. same_request other q ≡ false)
+    → is_complete program (post program exchange req cells) q ≡ is_complete program exchange q
 unfolding is_complete post partner
 only_partner program exchange req q cells apart others =
     unchanged (completes_alone program.eager (posting_of program q)) exchange req q (what_is_posted program req cells) (what_is_of program req cells) apart others
@@ -180,8 +180,8 @@ post_posts program exchange req cells =
 
 -- and nothing else becomes posted
 pub post_keeps : (program : Program) (exchange : Exchange) (req q : ReqNo) (cells : List ℤ) → same_request req q ≡ false
-  → is_posted (post program exchange req cells) q ≡ is_posted exchange q
+    → is_posted (post program exchange req cells) q ≡ is_posted exchange q
 unfolding post
 post_keeps program exchange req q cells apart =
     posted_after exchange req q (what_is_posted program req cells)
-      ∙ ap (λ (b : Bool). is_posted exchange q || b) (same_request-comm q req ∙ apart) ∙ or_none (is_posted exchange q)
+    ∙ ap (λ (b : Bool). is_posted exchange q || b) (same_request-comm q req ∙ apart) ∙ or_none (is_posted exchange q)

@@ -18,55 +18,55 @@ exchange posted mailboxes matches = record { posted = posted; mailboxes = mailbo
 
 -- an exchange is its three lists
 pub same_lists : {posted posted' : List ReqNo} {mailboxes mailboxes' : List Mailbox} {matches matches' : List Match}
-  → posted ≡ posted' → mailboxes ≡ mailboxes' → matches ≡ matches'
-  → ◌≡◌ {A = Exchange} (record { posted = posted; mailboxes = mailboxes; matches = matches }) (record { posted = posted'; mailboxes = mailboxes'; matches = matches' })
+    → posted ≡ posted' → mailboxes ≡ mailboxes' → matches ≡ matches'
+    → ◌≡◌ {A = Exchange} (record { posted = posted; mailboxes = mailboxes; matches = matches }) (record { posted = posted'; mailboxes = mailboxes'; matches = matches' })
 same_lists {posted} {posted'} {mailboxes} {mailboxes'} {matches} {matches'} p m e =
     ap (λ (x : List ReqNo). exchange x mailboxes matches) p ∙ ap (λ (x : List Mailbox). exchange posted' x matches) m ∙ ap (λ (x : List Match). exchange posted' mailboxes' x) e
 
 -- the mailbox of a rank is that of its queues
 pub mailbox_here : (shelves : List Shelf) (rank : ℕ) (here : Shelf) → rank < length shelves → here ≡ get_or shelves rank here
-  → get_or (map (λ (shelf : Shelf). shelf.mailbox) shelves) rank no_mail ≡ here.mailbox
+    → get_or (map (λ (shelf : Shelf). shelf.mailbox) shelves) rank no_mail ≡ here.mailbox
 mailbox_here shelves rank here below is =
     get_or-map (λ (shelf : Shelf). shelf.mailbox) shelves rank here no_mail below ∙ ap (λ (shelf : Shelf). shelf.mailbox) (sym is)
 
 -- the queues of one rank change
 pub mailboxes_set : (shelves : List Shelf) (rank : ℕ) (there : Shelf) (mailbox : Mailbox) → there.mailbox ≡ mailbox
-  → map (λ (shelf : Shelf). shelf.mailbox) (set shelves rank there) ≡ set (map (λ (shelf : Shelf). shelf.mailbox) shelves) rank mailbox
+    → map (λ (shelf : Shelf). shelf.mailbox) (set shelves rank there) ≡ set (map (λ (shelf : Shelf). shelf.mailbox) shelves) rank mailbox
 mailboxes_set shelves rank there mailbox is =
     map-set (λ (shelf : Shelf). shelf.mailbox) shelves rank there
-      ∙ ap (λ (box : Mailbox). set (map (λ (shelf : Shelf). shelf.mailbox) shelves) rank box) is
+    ∙ ap (λ (box : Mailbox). set (map (λ (shelf : Shelf). shelf.mailbox) shelves) rank box) is
 
 -- a message came to the queues of a rank
 pub exchange_sent : (inside old : Traffic) (to : ℕ) (given message : Message) (here there : Shelf) (posted : List ReqNo) (matches : List Match)
-  → inside ≡ old → given ≡ message → to < length old.shelves → here ≡ get_or inside.shelves to here
-  → there.mailbox ≡ send here.mailbox message
-  → posted ≡ inside.posted.items ++ given.request ∷ []
-  → matches ≡ inside.matches.items ++ option_to_list (option_map (λ (found : Receive). match message found) (element here.mailbox.receives (place_of_receive here.mailbox message)))
-  → exchange posted (map (λ (shelf : Shelf). shelf.mailbox) (set inside.shelves to there)) matches ≡ exchange_after (exchange_of old) message.request (Sent to message)
+    → inside ≡ old → given ≡ message → to < length old.shelves → here ≡ get_or inside.shelves to here
+    → there.mailbox ≡ send here.mailbox message
+    → posted ≡ inside.posted.items ++ given.request ∷ []
+    → matches ≡ inside.matches.items ++ option_to_list (option_map (λ (found : Receive). match message found) (element here.mailbox.receives (place_of_receive here.mailbox message)))
+    → exchange posted (map (λ (shelf : Shelf). shelf.mailbox) (set inside.shelves to there)) matches ≡ exchange_after (exchange_of old) message.request (Sent to message)
 exchange_sent inside old to given message here there posted matches same given_is below here_is there_is posted_is matches_is =
     let within : to < length inside.shelves = subst (λ (t : Traffic). to < length t.shelves) (sym same) below in
     let found : get_or (map (λ (shelf : Shelf). shelf.mailbox) inside.shelves) to no_mail ≡ here.mailbox = mailbox_here inside.shelves to here within here_is in
     subst (λ (t : Traffic). exchange posted (map (λ (shelf : Shelf). shelf.mailbox) (set inside.shelves to there)) matches ≡ exchange_after (exchange_of t) message.request (Sent to message)) same
-      (same_lists (posted_is ∙ ap (λ (m : Message). inside.posted.items ++ m.request ∷ []) given_is)
-        (mailboxes_set inside.shelves to there (send here.mailbox message) there_is
-          ∙ ap (λ (box : Mailbox). set (map (λ (shelf : Shelf). shelf.mailbox) inside.shelves) to (send box message)) (sym found))
-        (matches_is ∙ ap (λ (box : Mailbox). inside.matches.items ++ option_to_list (option_map (λ (found : Receive). match message found) (element box.receives (place_of_receive box message)))) (sym found)))
+    (same_lists (posted_is ∙ ap (λ (m : Message). inside.posted.items ++ m.request ∷ []) given_is)
+    (mailboxes_set inside.shelves to there (send here.mailbox message) there_is
+    ∙ ap (λ (box : Mailbox). set (map (λ (shelf : Shelf). shelf.mailbox) inside.shelves) to (send box message)) (sym found))
+    (matches_is ∙ ap (λ (box : Mailbox). inside.matches.items ++ option_to_list (option_map (λ (found : Receive). match message found) (element box.receives (place_of_receive box message)))) (sym found)))
 
 -- a receive came to the queues of a rank
 pub exchange_asked : (inside old : Traffic) (at : ℕ) (given wish : Receive) (here there : Shelf) (posted : List ReqNo) (matches : List Match)
-  → inside ≡ old → given ≡ wish → at < length old.shelves → here ≡ get_or inside.shelves at here
-  → there.mailbox ≡ receive here.mailbox wish
-  → posted ≡ inside.posted.items ++ given.request ∷ []
-  → matches ≡ inside.matches.items ++ option_to_list (option_map (λ (found : Message). match found wish) (element here.mailbox.messages (place_of_message here.mailbox wish)))
-  → exchange posted (map (λ (shelf : Shelf). shelf.mailbox) (set inside.shelves at there)) matches ≡ exchange_after (exchange_of old) wish.request (Asked at wish)
+    → inside ≡ old → given ≡ wish → at < length old.shelves → here ≡ get_or inside.shelves at here
+    → there.mailbox ≡ receive here.mailbox wish
+    → posted ≡ inside.posted.items ++ given.request ∷ []
+    → matches ≡ inside.matches.items ++ option_to_list (option_map (λ (found : Message). match found wish) (element here.mailbox.messages (place_of_message here.mailbox wish)))
+    → exchange posted (map (λ (shelf : Shelf). shelf.mailbox) (set inside.shelves at there)) matches ≡ exchange_after (exchange_of old) wish.request (Asked at wish)
 exchange_asked inside old at given wish here there posted matches same given_is below here_is there_is posted_is matches_is =
     let within : at < length inside.shelves = subst (λ (t : Traffic). at < length t.shelves) (sym same) below in
     let found : get_or (map (λ (shelf : Shelf). shelf.mailbox) inside.shelves) at no_mail ≡ here.mailbox = mailbox_here inside.shelves at here within here_is in
     subst (λ (t : Traffic). exchange posted (map (λ (shelf : Shelf). shelf.mailbox) (set inside.shelves at there)) matches ≡ exchange_after (exchange_of t) wish.request (Asked at wish)) same
-      (same_lists (posted_is ∙ ap (λ (w : Receive). inside.posted.items ++ w.request ∷ []) given_is)
-        (mailboxes_set inside.shelves at there (receive here.mailbox wish) there_is
-          ∙ ap (λ (box : Mailbox). set (map (λ (shelf : Shelf). shelf.mailbox) inside.shelves) at (receive box wish)) (sym found))
-        (matches_is ∙ ap (λ (box : Mailbox). inside.matches.items ++ option_to_list (option_map (λ (found : Message). match found wish) (element box.messages (place_of_message box wish)))) (sym found)))
+    (same_lists (posted_is ∙ ap (λ (w : Receive). inside.posted.items ++ w.request ∷ []) given_is)
+    (mailboxes_set inside.shelves at there (receive here.mailbox wish) there_is
+    ∙ ap (λ (box : Mailbox). set (map (λ (shelf : Shelf). shelf.mailbox) inside.shelves) at (receive box wish)) (sym found))
+    (matches_is ∙ ap (λ (box : Mailbox). inside.matches.items ++ option_to_list (option_map (λ (found : Message). match found wish) (element box.messages (place_of_message box wish)))) (sym found)))
 
 -- what is kept after a posting at a rank
 abbrev pub changed : Traffic → ℕ → Shelf → Listing ReqNo → Listing Match → Traffic
@@ -74,32 +74,33 @@ changed traffic rank there posted matches = record { shelves = set traffic.shelv
 
 -- the room of a rank after a posting at one
 queues_spent : (rooms : List ℕ) (rank at here there : ℕ) (taken : ℕ → ℕ)
-  → rank < length rooms → get_or rooms rank 0 ≡ here → there + 1 ≡ here → taken rank ≡ 1
-  → get_or rooms at 0 ≤ get_or (set rooms rank there) at 0 + taken at
+    → rank < length rooms → get_or rooms rank 0 ≡ here → there + 1 ≡ here → taken rank ≡ 1
+    → get_or rooms at 0 ≤ get_or (set rooms rank there) at 0 + taken at
 queues_spent rooms rank at here there taken within here_is room taken_is =
     elim (cases_eq at rank) [
-      inl same ↦
-        subst (λ (n : ℕ). get_or rooms n 0 ≤ get_or (set rooms rank there) n 0 + taken n) (sym same)
+      | inl same ↦
+          subst (λ (n : ℕ). get_or rooms n 0 ≤ get_or (set rooms rank there) n 0 + taken n) (sym same)
           (omega (arith, here_is, room, taken_is, get_or-set_same rooms rank there 0 within))
-    | inr other ↦ omega (arith, get_or-set_other rooms rank at there 0 other) ]
+      | inr other ↦ omega (arith, get_or-set_other rooms rank at there 0 other)
+    ]
 
 -- a posting at a rank takes one place in its queues
 pub spent_at : (inside old : Traffic) (rank : ℕ) (here there : Shelf) (posted : Listing ReqNo) (matches : Listing Match) (posting : Posting)
-  → inside ≡ old → rank < length old.shelves → here ≡ get_or inside.shelves rank here → there.room + 1 ≡ here.room
-  → posted.room + 1 ≡ inside.posted.room → inside.matches.room ≤ matches.room + 1 → taken_at posting rank ≡ 1
-  → HasSpent old (changed inside rank there posted matches) posting
+    → inside ≡ old → rank < length old.shelves → here ≡ get_or inside.shelves rank here → there.room + 1 ≡ here.room
+    → posted.room + 1 ≡ inside.posted.room → inside.matches.room ≤ matches.room + 1 → taken_at posting rank ≡ 1
+    → HasSpent old (changed inside rank there posted matches) posting
 spent_at inside old rank here there posted matches posting same below here_is room posted_room match_room taken =
     let within : rank < length inside.shelves = subst (λ (t : Traffic). rank < length t.shelves) (sym same) below in
     let room_of : Shelf → ℕ = λ shelf. shelf.room in
     subst (λ (t : Traffic). HasSpent t (changed inside rank there posted matches) posting) same
-      (record {
-        posted = omega (arith, posted_room);
-        matches = match_room;
-        queues = λ at. subst (λ (rooms : List ℕ). room_at inside at ≤ get_or rooms at 0 + taken_at posting at) (sym (map-set room_of inside.shelves rank there))
+    (record {
+      posted = omega (arith, posted_room);
+      matches = match_room;
+      queues = λ at. subst (λ (rooms : List ℕ). room_at inside at ≤ get_or rooms at 0 + taken_at posting at) (sym (map-set room_of inside.shelves rank there))
           (queues_spent (map room_of inside.shelves) rank at here.room there.room (taken_at posting)
-            (subst (λ (n : ℕ). rank < n) (sym (length-map inside.shelves room_of)) within)
-            (get_or-map room_of inside.shelves rank here 0 within ∙ ap room_of (sym here_is)) room taken) })
-
+          (subst (λ (n : ℕ). rank < n) (sym (length-map inside.shelves room_of)) within)
+          (get_or-map room_of inside.shelves rank here 0 within ∙ ap room_of (sym here_is)) room taken);
+    })
 
 -- a rank is itself
 pub here_taken : (rank : ℕ) → ◌≡◌ {A = ℕ} (if rank == rank then 1 else 0) 1
@@ -110,27 +111,28 @@ pub no_match : (matches : List Match) (made : Option Match) → None ≡ made �
 no_match matches made none = sym (ap (λ (o : Option Match). matches ++ option_to_list o) (sym none) ∙ append-nil matches)
 
 pub one_match : (matches after : List Match) (found : Match) (made : Option Match) → Some found ≡ made → after ≡ matches ++ found ∷ []
-  → after ≡ matches ++ option_to_list made
+    → after ≡ matches ++ option_to_list made
 one_match matches after found made some is = is ∙ ap (λ (o : Option Match). matches ++ option_to_list o) some
 
 -- a posting that has room has it where it goes
 pub room_here : (inside old : Traffic) (rank : ℕ) (here : Shelf) (posting : Posting) → inside ≡ old → rank < length old.shelves → here ≡ get_or inside.shelves rank here
-  → taken_at posting rank ≡ 1 → HasRoomFor old posting → 0 < here.room
+    → taken_at posting rank ≡ 1 → HasRoomFor old posting → 0 < here.room
 room_here inside old rank here posting same below here_is taken room =
     let room_of : Shelf → ℕ = λ shelf. shelf.room in
     let found : get_or (map room_of old.shelves) rank 0 ≡ here.room =
-      get_or-map room_of old.shelves rank here 0 below ∙ ap (λ (t : Traffic). room_of (get_or t.shelves rank here)) (sym same) ∙ ap room_of (sym here_is) in
+    get_or-map room_of old.shelves rank here 0 below ∙ ap (λ (t : Traffic). room_of (get_or t.shelves rank here)) (sym same) ∙ ap room_of (sym here_is) in
     omega (arith, found, taken, room.queues rank)
 
 -- one rank more, with empty queues
 pub one_rank_more : (shelves new : List Shelf) (shelf : Shelf) (rank : ℕ) (room : ℕ → ℕ) → new ≡ shelves ++ shelf ∷ [] → shelf.mailbox ≡ no_mail → shelf.room ≡ room rank
-  → (map (λ (shelf : Shelf). shelf.mailbox) shelves ≡ replicate rank no_mail) × (map (λ (shelf : Shelf). shelf.room) shelves ≡ map room (range_with_len 0 rank))
-  → (map (λ (shelf : Shelf). shelf.mailbox) new ≡ replicate (rank + 1) no_mail) × (map (λ (shelf : Shelf). shelf.room) new ≡ map room (range_with_len 0 (rank + 1)))
+    → (map (λ (shelf : Shelf). shelf.mailbox) shelves ≡ replicate rank no_mail) × (map (λ (shelf : Shelf). shelf.room) shelves ≡ map room (range_with_len 0 rank))
+    → (map (λ (shelf : Shelf). shelf.mailbox) new ≡ replicate (rank + 1) no_mail) × (map (λ (shelf : Shelf). shelf.room) new ≡ map room (range_with_len 0 (rank + 1)))
 one_rank_more shelves new shelf rank room is empty room_is so_far =
     let mailbox : Shelf → Mailbox = λ shelf. shelf.mailbox in
-    let room_of : Shelf → ℕ = λ shelf. shelf.room in
-    (ap (map mailbox) is ∙ map-append mailbox shelves (shelf ∷ [])
-        ∙ ap (λ (m : Mailbox). map mailbox shelves ++ m ∷ []) empty ∙ ap (λ (all : List Mailbox). all ++ no_mail ∷ []) so_far.0 ∙ replicate_more rank no_mail,
+    let room_of : Shelf → ℕ = λ shelf. shelf.room in (
+      ap (map mailbox) is ∙ map-append mailbox shelves (shelf ∷ [])
+          ∙ ap (λ (m : Mailbox). map mailbox shelves ++ m ∷ []) empty ∙ ap (λ (all : List Mailbox). all ++ no_mail ∷ []) so_far.0 ∙ replicate_more rank no_mail,
       ap (map room_of) is ∙ map-append room_of shelves (shelf ∷ [])
-        ∙ ap (λ (n : ℕ). map room_of shelves ++ n ∷ []) room_is ∙ ap (λ (all : List ℕ). all ++ room rank ∷ []) so_far.1
-        ∙ sym (map-range_with_len_more room 0 rank rank (zero-add rank)))
+          ∙ ap (λ (n : ℕ). map room_of shelves ++ n ∷ []) room_is ∙ ap (λ (all : List ℕ). all ++ room rank ∷ []) so_far.1
+          ∙ sym (map-range_with_len_more room 0 rank rank (zero-add rank)),
+    )

@@ -14,7 +14,7 @@ use Rattle.match_engine.specs.Slots.{slot_at, slot_of, call_of, slots_that, is_o
 abbrev pub in_mailbox : ReqNo → Mailbox → ℕ
 in_mailbox req mailbox =
     count_by (λ (message : Message). same_request message.request req) mailbox.messages
-      + count_by (λ (wish : Receive). same_request wish.request req) mailbox.receives
+    + count_by (λ (wish : Receive). same_request wish.request req) mailbox.receives
 
 -- how often a request waits or takes part in a match
 abbrev pub occurrences : Exchange → ReqNo → ℕ

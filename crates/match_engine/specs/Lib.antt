@@ -1,5 +1,6 @@
 pub mod Requests
 pub mod Switch
+pub mod Laws
 pub mod Queues
 pub mod Slots
 pub mod Kept

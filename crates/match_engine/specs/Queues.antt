@@ -19,9 +19,10 @@ pub record Traffic : Type 0 where
 -- the exchange that is kept so
 abbrev pub exchange_of : Traffic → Exchange
 exchange_of traffic = record {
-    posted = traffic.posted.items;
-    mailboxes = map (λ (shelf : Shelf). shelf.mailbox) traffic.shelves;
-    matches = traffic.matches.items }
+  posted = traffic.posted.items;
+  mailboxes = map (λ (shelf : Shelf). shelf.mailbox) traffic.shelves;
+  matches = traffic.matches.items;
+}
 
 -- for how many postings more the queues of a rank have memory
 abbrev pub room_at : Traffic → ℕ → ℕ

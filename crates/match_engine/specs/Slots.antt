@@ -103,7 +103,7 @@ slots_that test slots = sum_by (count_by test) slots
 abbrev pub call_of : Program → ReqNo → Option Call
 call_of program req =
     option_and_then (λ (task : TaskDef). option_map (call_by task.rank) (slice_get (filter is_posting task.body.items) req.nth))
-      (slice_get program.tasks.items req.task.0)
+    (slice_get program.tasks.items req.task.0)
 
 -- what became of a posted request: the match in which it takes part has this place
 abbrev pub progress_by : Option ℕ → Progress

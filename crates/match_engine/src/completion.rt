@@ -37,13 +37,17 @@ pub fn cells(call: Call, found: Option<&Match>) -> &[i64]
     ensures { result.now ≡ call_cells call (option_copied found.entry) }
 {
     match found {
-        Some(found) => if is_receive(call.how) { stored_cells(call.span, &found.message) } else { &[] },
+        Some(found) => if is_receive(call.how) {
+            stored_cells(call.span, &found.message)
+        } else {
+            &[]
+        },
         None => &[],
     }
 }
 
-// Complete as it is posted: to or from the null process, or a standard send of at most as many cells as the eager limit.
-fn completes_at_once(eager: u32, call: Call) -> bool
+/// Complete as it is posted: to or from the null process, or a standard send of at most as many cells as the eager limit.
+pub fn completes_at_once(eager: u32, call: Call) -> bool
     ensures { result ≡ completes_at_once eager call.how call.span call.peer }
 {
     is_null(call.peer) || is_standard(call.how) && span_len(call.span) <= eager
@@ -55,7 +59,11 @@ fn receive_status(call: Call, found: Option<&Match>) -> Status
 {
     match found {
         Some(found) => message_status(call.span, &found.message),
-        None => if is_null(call.peer) { null_status() } else { empty_status() },
+        None => if is_null(call.peer) {
+            null_status()
+        } else {
+            empty_status()
+        },
     }
 }
 
@@ -65,8 +73,17 @@ fn message_status(span: Span, message: &Message) -> Status
 {
     let room = span_len(span);
     let count = message.cells.len();
-    let (count, error) = if (room as usize) < count { (room, 1) } else { (count as u32, 0) };
-    Status { source: message.source as i32, tag: message.tag as i32, count, error }
+    let (count, error) = if (room as usize) < count {
+        (room, 1)
+    } else {
+        (count as u32, 0)
+    };
+    Status {
+        source: message.source as i32,
+        tag: message.tag as i32,
+        count,
+        error,
+    }
 }
 
 // What a receive into the span stores.
@@ -75,21 +92,35 @@ fn stored_cells(span: Span, message: &Message) -> &[i64]
 {
     let cells = message.cells.as_slice();
     let room = span_len(span) as usize;
-    if room < cells.len() { &cells[..room] } else { cells }
+    if room < cells.len() {
+        &cells[..room]
+    } else {
+        cells
+    }
 }
 
 // The status of a send.
 fn empty_status() -> Status
     ensures { result ≡ empty_status }
 {
-    Status { source: -1, tag: -1, count: 0, error: 0 }
+    Status {
+        source: -1,
+        tag: -1,
+        count: 0,
+        error: 0,
+    }
 }
 
 // The status of a receive from the null process.
 fn null_status() -> Status
     ensures { result ≡ null_status }
 {
-    Status { source: -2, tag: -1, count: 0, error: 0 }
+    Status {
+        source: -2,
+        tag: -1,
+        count: 0,
+        error: 0,
+    }
 }
 
 // How many cells the span has.

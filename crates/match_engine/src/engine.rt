@@ -7,7 +7,7 @@ ghost use Rattle.rt_base.specs.Completion.{is_posted, is_complete, completes_alo
 ghost use Rattle.rt_base.specs.WellFormed.{WellFormed};
 ghost use Rattle.match_engine.specs.Requests.{IsSend, IsReceive};
 
-use crate::completion::{cells, is_complete, status};
+use crate::completion::{cells, completes_at_once, is_complete, status};
 use crate::exchange::Exchange;
 use crate::slots::Slots;
 use rt_base::{Cells, Program, ReqNo, Status};
@@ -107,6 +107,15 @@ impl Engine {
             Some(slot) => is_complete(self.eager, slot.call, slot.progress),
             None => false,
         }
+    }
+
+    /// Whether a complete request was complete as it was posted, whatever met it (MPI 4.0, 3.4 and 3.11), in constant time.
+    pub fn completes_alone(&self, req: ReqNo) -> bool
+        requires { is_complete self.now.program self.now.exchange req ≡ true }
+        ensures { result ≡ completes_alone self.now.program.eager (posting_of self.now.program req) }
+    {
+        let slot = self.slots.get(req);
+        completes_at_once(self.eager, slot.call)
     }
 
     /// The status of a complete request (MPI 4.0, 3.2.5, 3.7.3 and 3.11), in constant time.

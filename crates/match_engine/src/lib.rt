@@ -4,8 +4,12 @@
 mod completion;
 mod engine;
 mod exchange;
+mod laws;
 mod mail;
 mod queues;
 mod slots;
+#[cfg(test)]
+mod tests;
 
 pub use engine::Engine;
+pub use laws::{messages_do_not_overtake, nothing_that_matches_is_left, receives_do_not_overtake};

@@ -60,7 +60,9 @@ impl Model for Match {
 pub fn is_match(receive: &Receive, message: &Message) -> bool
     ensures { result ≡ is_match receive.now message.now }
 {
-    receive.comm == message.comm && names_source(receive.source, message.source) && names_tag(receive.tag, message.tag)
+    receive.comm == message.comm
+        && names_source(receive.source, message.source)
+        && names_tag(receive.tag, message.tag)
 }
 
 // The receive names this source, or any.

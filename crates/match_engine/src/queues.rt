@@ -4,7 +4,7 @@ ghost use Rattle.std.specs.Prelude.{◌≡◌, ℕ, ◌+◌, ◌≤◌, ◌<◌,
 ghost use Rattle.rt_base.specs.Matching.{is_match};
 ghost use Rattle.rt_base.specs.Exchange.{no_mail, send, receive, element, place_of_receive, place_of_message};
 
-use crate::mail::{is_match, Match, Message, Receive};
+use crate::mail::{Match, Message, Receive, is_match};
 use std::alloc::{AllocError, Global};
 use std::marker::Model;
 

@@ -177,12 +177,40 @@ fn push_slot(row: &mut Vec<Slot>, rank: u16, operation: &Op) -> Result<(), Alloc
     ensures { IfOk result (λ _. row.new.items ≡ row.old.items ++ map (fresh_slot rank) (filter is_posting (operation.now ∷ []))) }
 {
     match operation {
-        Op::Post { how, span, peer, tag, comm, status: _ } => {
-            let call = Call { how: *how, span: *span, peer: *peer, tag: *tag, comm: *comm, rank };
-            Ok(row.push(Slot { call, progress: Progress::Unposted })?)
+        Op::Post {
+            how,
+            span,
+            peer,
+            tag,
+            comm,
+            status: _,
+        } => {
+            let call = Call {
+                how: *how,
+                span: *span,
+                peer: *peer,
+                tag: *tag,
+                comm: *comm,
+                rank,
+            };
+            Ok(row.push(Slot {
+                call,
+                progress: Progress::Unposted,
+            })?)
         }
-        Op::Compute { kernel: _, dst: _, left: _, right: _, value: _, step: _ } => Ok(()),
-        Op::Await { later: _, handles: _, status: _ } => Ok(()),
+        Op::Compute {
+            kernel: _,
+            dst: _,
+            left: _,
+            right: _,
+            value: _,
+            step: _,
+        } => Ok(()),
+        Op::Await {
+            later: _,
+            handles: _,
+            status: _,
+        } => Ok(()),
     }
 }
 

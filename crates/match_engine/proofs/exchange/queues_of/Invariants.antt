@@ -9,4 +9,4 @@ use Rattle.match_engine.proofs.exchange.queues_of.Given as goal
 abbrev pub invariant-loop-rank : goal.invariant-loop-rank
 invariant-loop-rank l =
     (map (λ (shelf : Shelf). shelf.mailbox) l.queues.items ≡ replicate l.rank no_mail)
-      × (map (λ (shelf : Shelf). shelf.room) l.queues.items ≡ map (λ rank. slots_that (is_due rank) l.slots) (range_with_len 0 l.rank))
+    × (map (λ (shelf : Shelf). shelf.room) l.queues.items ≡ map (λ rank. slots_that (is_due rank) l.slots) (range_with_len 0 l.rank))

@@ -5,5 +5,10 @@ use Rattle.match_engine.proofs.slots.count_due.Goals as goal
 
 pub overflow_add-count : goal.overflow_add-count
 overflow_add-count c =
-    omega (arith, c.requires, c.loop-row.invariant, c.due_in-count.ensures ∙ ap (count_by (is_due c.args.rank)) (c.deref.ensures.value ∙ ap vec_items c.row-item.is),
-      counts_within (is_due c.args.rank) vec_items c.args.rows.now c.loop-row.row-index c.row-item.result c.loop-row-test.true)
+    omega (
+      arith,
+      c.requires,
+      c.loop-row.invariant,
+      c.due_in-count.ensures ∙ ap (count_by (is_due c.args.rank)) (c.deref.ensures.value ∙ ap vec_items c.row-item.is),
+      counts_within (is_due c.args.rank) vec_items c.args.rows.now c.loop-row.row-index c.row-item.result c.loop-row-test.true,
+    )

@@ -10,5 +10,5 @@ build-requires-2 c = slots_counted c.args.prog.now _ c.requires c.in_ok-slots.en
 pub invariant_of-result : goal.invariant_of-result
 invariant_of-result c =
     subst (λ (p : Program). IsKept p c.args.prog.now.eager c.in_ok-build.field-0 c.in_ok-slots.slots) (sym c.of.ensures)
-      (kept_at_start c.args.prog.now c.args.prog.now.eager c.in_ok-build.field-0 c.in_ok-slots.slots c.requires refl c.in_ok-slots.ensures
-        c.in_ok-build.ensures.exchange c.in_ok-build.ensures.posted c.in_ok-build.ensures.matches c.in_ok-build.ensures.queues)
+    (kept_at_start c.args.prog.now c.args.prog.now.eager c.in_ok-build.field-0 c.in_ok-slots.slots c.requires refl c.in_ok-slots.ensures
+    c.in_ok-build.ensures.exchange c.in_ok-build.ensures.posted c.in_ok-build.ensures.matches c.in_ok-build.ensures.queues)
