@@ -1,6 +1,7 @@
 -- What a book answers of its tasks, in terms of its fields.
 use Rattle.std.proofs.Common.{◌≡◌, ◌≢◌, ℕ, zero, suc, ◌+◌, ◌<◌, ◌≤◌, ◌↔◌, Bool, true, false, ◌||◌, not, cond, List, [], ◌∷◌, length, map, slice_get, get_or, Some, None, Option, IsTrue, refl, sym, ap, ◌∙◌, subst, All, below_more, inl, inr, arith, rules}
-use Rattle.std.specs.Prelude.{ℤ, option_map, ⊤}
+use Rattle.std.specs.Prelude.{ℤ, option_map, ⊤, ◌==◌, ◌&&◌}
+use Rattle.std.specs.List.{list_any}
 use Rattle.std.proofs.lemmas.Option.{slice_get_within, slice_get_read, slice_get-get_or, slice_get_past}
 use Rattle.std.proofs.lemmas.List.{length-map}
 use Rattle.std.proofs.lemmas.List.Elements.{All-map}
@@ -16,6 +17,7 @@ use Rattle.rt_base.specs.declared.data.Entry.{Entry}
 use Rattle.rt_base.specs.declared.data.TaskDef.{TaskDef}
 use Rattle.rt_base.specs.declared.data.Program.{Program}
 use Rattle.rt_base.specs.Operations.{awaited, awaited_by, nth_at, request, named_requests, blocks}
+use Rattle.rt_base.specs.Matching.{same_request}
 use Rattle.rt_base.specs.Precedes.{LetGo, MayStart}
 use Rattle.rt_base.specs.Exchange.{Exchange}
 use Rattle.rt_base.specs.Completion.{is_complete}
@@ -179,3 +181,20 @@ quiet_of_all p s t all none = λ u may. none u (before u t p s all may) may
 -- none before a place and not the one there
 pub none_before_more : (p : Program) (s : State) (t : ℕ) → NoneBefore p s t → (MayMove p s t → ⊥) → NoneBefore p s (t + 1)
 none_before_more p s t none here = below_more (λ u. MayMove p s u → ⊥) t none here
+
+-- a request among those that an operation awaits
+pub awaited_among : (def : TaskDef) (k : ℕ) (x : Op) (req : ReqNo) (result : Bool) → slice_get def.body.items k ≡ Some x → result ≡ list_any (same_request req) (awaited_by req.task.0 (nth_at def k) (Some x))
+    → result ≡ list_any (same_request req) (awaited req.task.0 def k)
+awaited_among def k x req result here is = is ∙ ap (λ (reqs : List ReqNo). list_any (same_request req) reqs) (sym (awaited_is req.task.0 def k x here))
+
+pub none_among_past : (def : TaskDef) (k : ℕ) (req : ReqNo) → length def.body.items ≤ k → false ≡ list_any (same_request req) (awaited req.task.0 def k)
+unfolding awaited
+none_among_past def k req past = ap (λ (o : Option Op). list_any (same_request req) (awaited_by req.task.0 (nth_at def k) o)) (sym (slice_get_past def.body.items k past))
+
+same_nth : (req : ReqNo) (n : ℕ) → (n == req.nth) ≡ list_any (same_request req) (request req.task.0 n ∷ [])
+same_nth req n = ?
+
+-- of one request that is awaited only where the operation blocks
+pub one_among : (req : ReqNo) (n : ℕ) (blocking : Bool) (result : Bool) → result ≡ (blocking && (n == req.nth)) → result ≡ list_any (same_request req) (cond blocking (request req.task.0 n ∷ []) [])
+one_among req n true result is = is ∙ same_nth req n
+one_among req n false result is = is

@@ -1,8 +1,13 @@
 -- How a book keeps the state after its history. No public clause cites this module.
-use Rattle.std.specs.Prelude.{◌≡◌, ◌≢◌, ℕ, ◌+◌, ◌-◌, ◌*◌, ◌<◌, ◌≤◌, Bool, true, false, List, [], ◌∷◌, map, length, slice_get, Some, ℤ, sum_by}
+use Rattle.std.specs.Prelude.{◌≡◌, ◌≢◌, ℕ, ◌+◌, ◌-◌, ◌*◌, ◌<◌, ◌≤◌, Bool, true, false, List, [], ◌∷◌, map, length, slice_get, Option, Some, None, ℤ, sum_by, not, ◌&&◌, ⊤, if◌then◌else◌}
+use Rattle.std.specs.List.{list_any}
 use Rattle.rt_base.specs.declared.data.ReqNo.{ReqNo}
 use Rattle.rt_base.specs.declared.data.Phase.{Phase}
 use Rattle.rt_base.specs.declared.data.Phase.TheVariants as phase
+use Rattle.rt_base.specs.declared.data.Span.{Span}
+use Rattle.rt_base.specs.declared.data.Peer.{Peer}
+use Rattle.rt_base.specs.declared.data.TagSel.{TagSel}
+use Rattle.rt_base.specs.declared.data.How.{How}
 use Rattle.rt_base.specs.declared.data.Handle.{Handle}
 use Rattle.rt_base.specs.declared.data.Handle.TheVariants as handle
 use Rattle.rt_base.specs.declared.data.Op.{Op}
@@ -12,14 +17,18 @@ use Rattle.rt_base.specs.declared.data.Entry.{Entry}
 use Rattle.rt_base.specs.declared.data.TaskDef.{TaskDef}
 use Rattle.rt_base.specs.declared.data.Program.{Program}
 use Rattle.rt_base.specs.Layout.{memory_len}
-use Rattle.rt_base.specs.Operations.{request, postings, nth_at}
+use Rattle.rt_base.specs.Operations.{request, postings, nth_at, is_receive, posting_of}
+use Rattle.rt_base.specs.Matching.{same_request}
 use Rattle.rt_base.specs.Precedes.{LetGo}
 use Rattle.rt_base.specs.Exchange.{Exchange}
-use Rattle.rt_base.specs.Completion.{is_posted, is_complete}
+use Rattle.rt_base.specs.Completion.{is_posted, is_complete, completes_alone, request_status}
 use Rattle.rt_base.specs.State.{State, Task, let_go_at}
 use Rattle.rt_base.specs.WellFormed.{WellFormed}
 use Rattle.match_engine.specs.Switch.{Switch}
 use Rattle.region_deps.specs.Readiness.{Readiness, IsWhole}
+use Rattle.task_local.specs.declared.standing.At.{At}
+use Rattle.task_local.specs.declared.standing.At.TheVariants as at
+use Rattle.core_book.specs.Machine.{awaited_at}
 use Rattle.core_book.specs.Legal.{IsLegal, final}
 
 -- at most how many moves a task that stands there has left, if its body has so many operations
@@ -94,3 +103,45 @@ pub record IsBook (program : Program) (workers : ℕ) (ready : Readiness) (memor
 abbrev pub is_complete_handle : Program → Exchange → ℕ → Handle → Bool
 is_complete_handle program exchange t handle.Null = true
 is_complete_handle program exchange t (handle.Nth n) = is_complete program exchange (request t n)
+
+-- the task is before a call
+abbrev pub IsCallAt : At → Type 0
+IsCallAt at.Local = ⊥
+IsCallAt at.Fresh = ⊥
+IsCallAt (at.Call k) = ⊤
+IsCallAt (at.In k) = ⊥
+IsCallAt at.Ended = ⊥
+IsCallAt at.Returned = ⊥
+IsCallAt at.Released = ⊥
+
+-- the task is blocked in an operation
+abbrev pub IsBlockedAt : At → Type 0
+IsBlockedAt at.Local = ⊥
+IsBlockedAt at.Fresh = ⊥
+IsBlockedAt (at.Call k) = ⊥
+IsBlockedAt (at.In k) = ⊤
+IsBlockedAt at.Ended = ⊥
+IsBlockedAt at.Returned = ⊥
+IsBlockedAt at.Released = ⊥
+
+-- the operation is a posting with these parts
+pub record PostsAs (operation : Option Op) (how : How) (span : Span) (status : Option Span) : Type 0 where
+  pub peer : Peer
+  pub tag : TagSel
+  pub comm : ℕ
+  pub is : operation ≡ Some (op.Post how span peer tag comm status)
+
+-- the status that a request of such a posting tells
+abbrev pub told_now : Program → Exchange → ReqNo → How → List Status
+told_now program exchange req how = if is_receive how then request_status program exchange req ∷ [] else []
+
+-- whether a task in one of these phases awaits the request
+abbrev pub awaits_now : Program → List Phase → ReqNo → Bool
+awaits_now program phases req =
+    list_any (same_request req) (awaited_at req.task.0 (slice_get program.tasks.items req.task.0) (slice_get phases req.task.0))
+
+-- the notice of the request that a posting completed beside its own
+abbrev pub noticed_now : Program → List Phase → Option ReqNo → List ReqNo
+noticed_now program phases None = []
+noticed_now program phases (Some req) =
+    if not (completes_alone program.eager (posting_of program req)) && awaits_now program phases req then req ∷ [] else []

@@ -6,12 +6,15 @@ ghost use Rattle.rt_base.specs.WellFormed.{WellFormed};
 ghost use Rattle.rt_base.specs.MayMove.{MayMove};
 ghost use Rattle.task_local.specs.StandsFor.{StandsFor};
 ghost use Rattle.core_book.specs.Legal.{final, phases_of, IsLegal, IsQuiet, IsFinished};
-ghost use Rattle.core_book.specs.Ledger.{MakesMove, IsReady, new_ledger};
+ghost use Rattle.task_local.specs.Standing.{def, packed_next};
+ghost use Rattle.core_book.specs.Machine.{move};
+ghost use Rattle.core_book.specs.Ledger.{MakesMove, IsReady, IsAtPosting, IsInPosting, LeavesPending, new_ledger};
 
+use crate::posting::{blocked_place, call_place, pending, phase_after, place_after, post, posting_at, store_status, tell, tell_status};
 use crate::room::{all_waiting, cell_count, count_of, most_moves, note, zeros};
 use region_deps::Deps;
 use crate::tasks::{all_released, phase_before, stop, task_of};
-use crate::waits::may_leave;
+use crate::waits::{may_leave, nth_at};
 use match_engine::Engine;
 use task_local::TaskRec;
 use rt_base::{Cells, Entry, History, Listed, Phase, Phases, Program, ReqNo, Status, TaskNo};
@@ -104,6 +107,63 @@ impl Book {
         rec.go(prog, phase_before(def, 0));
         self.phases[task.0 as usize] = stop(def, 0);
         note(&mut self.entries, Entry::Start { task });
+    }
+
+    /// The task calls the posting that is next, and goes into it where it blocks; answers how many of its requests are incomplete then.
+    /// Takes no memory. Its time grows with the operations before the call, and with what waits in one mailbox.
+    pub fn call(&mut self, prog: &Program, rec: &mut TaskRec, cells: Cells) -> u32
+        requires well_formed { WellFormed prog.now }
+        requires same { prog.now ≡ self.old.program }
+        requires stands { StandsFor prog.now rec.old (final prog.now self.old.history) }
+        requires posting { IsAtPosting (def rec.old) rec.old.phase }
+        requires packed { cells.items ≡ packed_next (def rec.old) rec.old.phase rec.old.copy }
+        ensures moves { MakesMove self.old self.new rec.old rec.new }
+        ensures pending { LeavesPending (move prog.now (final prog.now self.old.history) rec.old.task).entry result }
+    {
+        let phases = &mut self.phases;
+        let task = rec.task();
+        let def = task_of(prog, task);
+        let k = call_place(rec.at(prog));
+        let posting = posting_at(def, k);
+        let req = ReqNo {
+            task,
+            nth: nth_at(def, k),
+        };
+        let partner = post(&mut self.engine, prog, req, posting.how, cells);
+        tell(&mut self.notices, &self.engine, prog, phases, partner);
+        phases[task.0 as usize] = phase_after(def, k, posting.how);
+        rec.go(prog, place_after(def, k, posting.how));
+        let pending = pending(&self.engine, req);
+        note(&mut self.entries, Entry::Call { task, op: k, pending });
+        pending
+    }
+
+    /// The task leaves the posting in which it waits: received cells and the status go into its copy. Takes no memory.
+    /// Its time grows with the operations before the posting, with the cells received, and with the local operations that come next.
+    pub fn leave(&mut self, prog: &Program, rec: &mut TaskRec)
+        requires well_formed { WellFormed prog.now }
+        requires same { prog.now ≡ self.old.program }
+        requires stands { StandsFor prog.now rec.old (final prog.now self.old.history) }
+        requires posting { IsInPosting (def rec.old) rec.old.phase }
+        requires enabled { MayMove prog.now (final prog.now self.old.history) rec.old.task }
+        ensures { MakesMove self.old self.new rec.old rec.new }
+    {
+        let phases = &mut self.phases;
+        let task = rec.task();
+        let def = task_of(prog, task);
+        let k = blocked_place(rec.at(prog));
+        let posting = posting_at(def, k);
+        let req = ReqNo {
+            task,
+            nth: nth_at(def, k),
+        };
+        rec.store(prog, posting.span, self.engine.cells(req));
+        let from = count_of(&self.statuses);
+        let count = tell_status(&mut self.statuses, &self.engine, prog, req, posting.how);
+        store_status(rec, prog, &self.engine, req, posting);
+        phases[task.0 as usize] = stop(def, k + 1);
+        rec.go(prog, phase_before(def, k + 1));
+        note(&mut self.entries, Entry::Leave { task, op: k, from, count });
     }
 
     /// The task returns: its body has ended. Takes no memory.

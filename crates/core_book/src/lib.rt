@@ -2,6 +2,7 @@
 #![tactic(auto)]
 
 mod book;
+mod posting;
 mod room;
 mod tasks;
 mod waits;

@@ -1,0 +1,42 @@
+-- The request is awaited exactly where the operation's kind says so.
+use Rattle.std.proofs.Common.{◌≡◌, ◌∙◌, refl, sym, ap, List, [], get_or, arith}
+use Rattle.rt_base.specs.declared.data.Op.{Op}
+use Rattle.rt_base.specs.declared.data.Op.TheVariants as op
+use Rattle.rt_base.specs.declared.data.Handle.{Handle}
+use Rattle.rt_base.specs.Operations.{blocks, named_requests}
+use Rattle.rt_base.specs.Matching.{same_request}
+use Rattle.std.specs.List.{list_any}
+use Rattle.core_book.proofs.Questions.{at_place, awaited_among, none_among_past, one_among}
+use Rattle.core_book.proofs.posting.is_awaited_in.Goals as goal
+
+pub returns-then-k-len : goal.returns-then-k-len
+returns-then-k-len c = none_among_past c.args.def.now c.args.k c.args.req (omega arith)
+
+pub returns-in-Compute : goal.returns-in-Compute
+returns-in-Compute c =
+    let i = c.in-Compute in
+    let x : Op = op.Compute i.kernel i.dst i.left i.right i.value i.step in
+    awaited_among c.args.def.now c.args.k x c.args.req _ (at_place c.args.def.now.body.items c.args.k c.index-as_slice-k.result x (omega arith)
+      (c.index-as_slice-k.is ∙ ap (λ (ops : List Op). get_or ops c.args.k c.index-as_slice-k.result) c.as_slice.ensures) i.is) refl
+
+pub returns-then-blocks : goal.returns-then-blocks
+returns-then-blocks c =
+    let i = c.in-Post in
+    let x : Op = op.Post i.how i.span i.peer i.tag i.comm i.status in
+    awaited_among c.args.def.now c.args.k x c.args.req _ (at_place c.args.def.now.body.items c.args.k c.index-as_slice-k.result x (omega arith)
+      (c.index-as_slice-k.is ∙ ap (λ (ops : List Op). get_or ops c.args.k c.index-as_slice-k.result) c.as_slice.ensures) i.is) ?
+
+pub returns-else-blocks : goal.returns-else-blocks
+returns-else-blocks c =
+    let i = c.in-Post in
+    let x : Op = op.Post i.how i.span i.peer i.tag i.comm i.status in
+    awaited_among c.args.def.now c.args.k x c.args.req _ (at_place c.args.def.now.body.items c.args.k c.index-as_slice-k.result x (omega arith)
+      (c.index-as_slice-k.is ∙ ap (λ (ops : List Op). get_or ops c.args.k c.index-as_slice-k.result) c.as_slice.ensures) i.is) ?
+
+pub returns-in-Await : goal.returns-in-Await
+returns-in-Await c =
+    let i = c.in-Await in
+    let x : Op = op.Await i.later i.handles i.status in
+    awaited_among c.args.def.now c.args.k x c.args.req _ (at_place c.args.def.now.body.items c.args.k c.index-as_slice-k.result x (omega arith)
+      (c.index-as_slice-k.is ∙ ap (λ (ops : List Op). get_or ops c.args.k c.index-as_slice-k.result) c.as_slice.ensures) i.is)
+      (c.is_named.ensures c.args.req.task.0 ∙ ap (λ (hs : List Handle). list_any (same_request c.args.req) (named_requests c.args.req.task.0 hs)) c.as_slice-in-Await.ensures)

@@ -1,0 +1,257 @@
+//! The postings of a body, and what they do to the engine, the notices and the statuses.
+
+ghost use Rattle.std.specs.Prelude.{◌≡◌, ◌≢◌, ◌≤◌, ◌<◌, ◌+◌, ◌^◌, ◌++◌, [], ◌∷◌, true, false, not, ◌&&◌, length, map, slice_get, vec_capacity, Some, IsSome, IfSome, if◌then◌else◌, ℕ};
+ghost use Rattle.std.specs.List.{list_any};
+ghost use Rattle.rt_base.specs.Matching.{same_request};
+ghost use Rattle.rt_base.specs.declared.data.Phase.TheVariants as phase;
+ghost use Rattle.rt_base.specs.declared.data.Op.TheVariants as op;
+ghost use Rattle.rt_base.specs.Operations.{awaited, blocks, is_receive, named_requests, posting_of, request};
+ghost use Rattle.rt_base.specs.Exchange.{post, partner};
+ghost use Rattle.rt_base.specs.Completion.{is_posted, is_complete, completes_alone, request_status};
+ghost use Rattle.match_engine.specs.Requests.{IsSend, IsReceive};
+ghost use Rattle.task_local.specs.Local.{stop};
+ghost use Rattle.task_local.specs.Standing.{phase_before, def, def_of};
+ghost use Rattle.task_local.specs.Waits.{status_cells, put_statuses};
+ghost use Rattle.rt_base.specs.Spans.{span_len};
+ghost use Rattle.rt_base.specs.WellFormed.{WellFormed, IsDeclared};
+ghost use Rattle.core_book.specs.Ledger.{IsPosting};
+ghost use Rattle.core_book.specs.Kept.{IsCallAt, IsBlockedAt, PostsAs, told_now, awaits_now, noticed_now};
+
+use crate::tasks::{phase_before, stop, task_of};
+use crate::room::note;
+use crate::waits::{blocks, nth_at};
+use match_engine::Engine;
+use rt_base::{Cells, Handle, How, Op, Phase, Program, ReqNo, Span, Status, TaskDef, TaskNo};
+use task_local::{At, TaskRec};
+
+/// A posting of a body: how it is posted, its span, and where its status goes.
+#[derive(Clone, Copy)]
+pub(crate) struct Posting {
+    pub(crate) how: How,
+    pub(crate) span: Span,
+    pub(crate) status: Option<Span>,
+}
+
+// The number of the call that is next.
+pub(crate) fn call_place(at: At) -> u32
+    requires { IsCallAt at }
+    ensures { at ≡ At.Call result }
+{
+    match at {
+        At::Local => unreachable!(),
+        At::Fresh => unreachable!(),
+        At::Call(k) => k,
+        At::In(_) => unreachable!(),
+        At::Ended => unreachable!(),
+        At::Returned => unreachable!(),
+        At::Released => unreachable!(),
+    }
+}
+
+// The number of the operation in which a task is blocked.
+pub(crate) fn blocked_place(at: At) -> u32
+    requires { IsBlockedAt at }
+    ensures { at ≡ At.In result }
+{
+    match at {
+        At::Local => unreachable!(),
+        At::Fresh => unreachable!(),
+        At::Call(_) => unreachable!(),
+        At::In(k) => k,
+        At::Ended => unreachable!(),
+        At::Returned => unreachable!(),
+        At::Released => unreachable!(),
+    }
+}
+
+// The posting that is operation k.
+pub(crate) fn posting_at(def: &TaskDef, k: u32) -> Posting
+    requires within { k < length def.now.body.items }
+    requires posts { IsPosting (slice_get def.now.body.items k) }
+    ensures { PostsAs (slice_get def.now.body.items k) result.how result.span result.status }
+{
+    match &def.body.as_slice()[k as usize] {
+        Op::Compute { .. } => unreachable!(),
+        Op::Post { how, span, status, .. } => Posting {
+            how: *how,
+            span: *span,
+            status: *status,
+        },
+        Op::Await { .. } => unreachable!(),
+    }
+}
+
+// Whether it is a receive.
+pub(crate) fn is_receive(how: How) -> bool
+    ensures { result ≡ is_receive how }
+{
+    match how {
+        How::Send => false,
+        How::Ssend => false,
+        How::Recv => true,
+        How::Isend => false,
+        How::Issend => false,
+        How::Irecv => true,
+    }
+}
+
+// Posts the request, and answers the other request that it completed.
+pub(crate) fn post(engine: &mut Engine, prog: &Program, req: ReqNo, how: How, cells: Cells) -> Option<ReqNo>
+    requires program { prog.now ≡ engine.old.program }
+    requires send { is_receive how ≡ false → IsSend engine.old.program req (length cells.items) }
+    requires receive { is_receive how ≡ true → IsReceive engine.old.program req × (cells.items ≡ []) }
+    requires fresh { is_posted engine.old.exchange req ≡ false }
+    ensures program { engine.new.program ≡ engine.old.program }
+    ensures exchange { engine.new.exchange ≡ post engine.old.program engine.old.exchange req cells.items }
+    ensures partner { result ≡ partner engine.old.program engine.old.exchange req cells.items }
+    ensures before { IfSome result (λ other. is_complete engine.old.program engine.old.exchange other
+        ≡ completes_alone engine.old.program.eager (posting_of engine.old.program other)) }
+    ensures completed { IfSome result (λ other. is_complete engine.new.program engine.new.exchange other ≡ true) }
+{
+    if is_receive(how) {
+        engine.post_recv(prog, req)
+    } else {
+        engine.post_send(prog, req, cells)
+    }
+}
+
+// Where a posting leaves its task in the machine.
+pub(crate) fn phase_after(def: &TaskDef, k: u32, how: How) -> Phase
+    requires within { k < length def.now.body.items }
+    requires few { length def.now.body.items < 2 ^ 32 }
+    ensures { result ≡ (if blocks how then phase.In k else stop def.now (k + 1)) }
+{
+    if blocks(how) {
+        Phase::In(k)
+    } else {
+        stop(def, k + 1)
+    }
+}
+
+// Where a posting leaves its record, with its local operations still to run.
+pub(crate) fn place_after(def: &TaskDef, k: u32, how: How) -> Phase
+    requires within { k < length def.now.body.items }
+    requires few { length def.now.body.items < 2 ^ 32 }
+    ensures { result ≡ (if blocks how then phase.In k else phase_before def.now (k + 1)) }
+{
+    if blocks(how) {
+        Phase::In(k)
+    } else {
+        phase_before(def, k + 1)
+    }
+}
+
+// How many requests of this one are incomplete: it, or none.
+pub(crate) fn pending(engine: &Engine, req: ReqNo) -> u32
+    ensures { result ≡ (if is_complete engine.now.program engine.now.exchange req then 0 else 1) }
+{
+    if engine.complete(req) { 0 } else { 1 }
+}
+
+// Whether a task in one of these phases awaits the request. Looks at the operations before the one in which the task is.
+fn is_awaited(prog: &Program, phases: &[Phase], req: ReqNo) -> bool
+    requires task { req.task.0 < length prog.now.tasks.items }
+    requires phases { length phases.now ≡ length prog.now.tasks.items }
+    requires few { length (def_of prog.now req.task.0).body.items < 2 ^ 32 }
+    ensures { result ≡ awaits_now prog.now phases.now req }
+{
+    match phases[req.task.0 as usize] {
+        Phase::Waiting => false,
+        Phase::At(_) => false,
+        Phase::In(k) => is_awaited_in(task_of(prog, req.task), k, req),
+        Phase::Ended => false,
+        Phase::Returned => false,
+        Phase::Released => false,
+    }
+}
+
+// Whether its task awaits the request in operation k.
+fn is_awaited_in(def: &TaskDef, k: u32, req: ReqNo) -> bool
+    requires { length def.now.body.items < 2 ^ 32 }
+    ensures { result ≡ list_any (same_request req) (awaited req.task.0 def.now k) }
+{
+    if k as usize >= def.body.len() {
+        return false;
+    }
+    match &def.body.as_slice()[k as usize] {
+        Op::Compute { .. } => false,
+        Op::Post { how, .. } => blocks(*how) && nth_at(def, k) == req.nth,
+        Op::Await { handles, .. } => is_named(handles.as_slice(), req.nth),
+    }
+}
+
+// Whether one of the handles names the nth posting.
+fn is_named(handles: &[Handle], nth: u32) -> bool
+    ensures { (t : ℕ) → result ≡ list_any (same_request (request t nth)) (named_requests t handles.now) }
+{
+    for handle in handles {
+        if *handle == Handle::Nth(nth) {
+            return true;
+        }
+    }
+    false
+}
+
+// Appends the notice of the request that a posting completed beside its own.
+pub(crate) fn tell(notices: &mut Vec<ReqNo>, engine: &Engine, prog: &Program, phases: &[Phase], partner: Option<ReqNo>)
+    requires room { length notices.old.items < vec_capacity notices.old }
+    requires same { engine.now.program ≡ prog.now }
+    requires phases { length phases.now ≡ length prog.now.tasks.items }
+    requires few { (t : ℕ) → length (def_of prog.now t).body.items < 2 ^ 32 }
+    requires task { IfSome partner (λ other. other.task.0 < length prog.now.tasks.items) }
+    requires complete { IfSome partner (λ other. is_complete engine.now.program engine.now.exchange other ≡ true) }
+    ensures items { notices.new.items ≡ notices.old.items ++ noticed_now prog.now phases.now partner }
+    ensures places { vec_capacity notices.old ≤ vec_capacity notices.new }
+{
+    if let Some(other) = partner {
+        if !engine.completes_alone(other) && is_awaited(prog, phases, other) {
+            note(notices, other);
+        }
+    }
+}
+
+// Appends the status that a posting tells as it is left, and answers how many it told.
+pub(crate) fn tell_status(statuses: &mut Vec<Status>, engine: &Engine, prog: &Program, req: ReqNo, how: How) -> u32
+    requires room { length statuses.old.items < vec_capacity statuses.old }
+    requires same { prog.now ≡ engine.now.program }
+    requires complete { is_complete engine.now.program engine.now.exchange req ≡ true }
+    ensures items { statuses.new.items ≡ statuses.old.items ++ told_now engine.now.program engine.now.exchange req how }
+    ensures count { result ≡ length (told_now engine.now.program engine.now.exchange req how) }
+    ensures places { vec_capacity statuses.old ≤ vec_capacity statuses.new }
+{
+    if is_receive(how) {
+        note(statuses, engine.status(prog, req));
+        1
+    } else {
+        0
+    }
+}
+
+// A status as cells: source, tag, count, error.
+fn cells_of_status(status: Status) -> [i64; 4]
+    ensures { result ≡ status_cells status }
+{
+    [
+        i64::from(status.source),
+        i64::from(status.tag),
+        i64::from(status.count),
+        i64::from(status.error),
+    ]
+}
+
+// Stores the status of a receive where it goes, if it goes anywhere.
+pub(crate) fn store_status(rec: &mut TaskRec, prog: &Program, engine: &Engine, req: ReqNo, posting: Posting)
+    requires well_formed { WellFormed prog.now }
+    requires same { prog.now ≡ rec.old.program }
+    requires of_program { prog.now ≡ engine.now.program }
+    requires started { rec.old.phase ≢ phase.Waiting }
+    requires complete { is_complete engine.now.program engine.now.exchange req ≡ true }
+    requires receive { IsSome posting.status → is_receive posting.how ≡ true }
+    requires declared { IfSome posting.status (λ span. IsDeclared (def rec.old).accesses.items span × (span_len span ≡ 4)) }
+    ensures { rec.new ≡ record rec.old {
+        copy = put_statuses (def rec.old) posting.status (told_now engine.now.program engine.now.exchange req posting.how) rec.old.copy } }
+{
+    if let Some(span) = posting.status {
+        rec.store(prog, span, &cells_of_status(engine.status(prog, req)));
+    }
+}
