@@ -192,7 +192,7 @@ room_for_entry p w ready m phs x ns es ss a b c t def was book is_def is_task so
     let notices = book.kept.notice_room in
     (omega arith, omega arith, omega arith)
 
-stop_is_held : (def : TaskDef) (k : ℕ) → is_released (stop def k) ≡ false
+pub stop_is_held : (def : TaskDef) (k : ℕ) → is_released (stop def k) ≡ false
 unfolding stop
 stop_is_held def k = stop_held k (drop k def.body.items)
 

@@ -61,7 +61,7 @@ stands_here l p prog w es ss handed held view same stands =
     subst (λ (z : Program). StandsFor z held (final z es)) programs (subst (λ (z : List Entry). StandsFor prog held (final prog z)) histories stands)
 
 -- a task that was started was handed out
-handed_of : (p : Program) (w : ℕ) (ready : Readiness) (m : List ℤ) (phs : List Phase) (x : Switch) (ns : List ReqNo) (es : List Entry) (ss : List Status) (a b c : ℕ) (t : ℕ) (was : Task)
+pub handed_of : (p : Program) (w : ℕ) (ready : Readiness) (m : List ℤ) (phs : List Phase) (x : Switch) (ns : List ReqNo) (es : List Entry) (ss : List Status) (a b c : ℕ) (t : ℕ) (was : Task)
     → IsBook p w ready m phs x ns es ss a b c → slice_get (final p es).tasks t ≡ Some was → was.phase ≢ phase.Waiting → slice_get ready.handed t ≡ Some true
 handed_of p w ready m phs x ns es ss a b c t was book is_task started =
     book.kept.begun t was.phase (ap (λ (z : List Phase). slice_get z t) book.kept.phases_are ∙ slice_get-map (λ (z : Task). z.phase) (final p es).tasks t ∙ ap (option_map (λ (z : Task). z.phase)) is_task) started

@@ -9,3 +9,5 @@ pub mod Changes
 pub mod BookLemmas
 pub mod BookMoves
 pub mod Questions
+pub mod CallLemmas
+pub mod LeaveLemmas

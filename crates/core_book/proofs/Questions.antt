@@ -2,6 +2,7 @@
 use Rattle.std.proofs.Common.{◌≡◌, ◌≢◌, ℕ, zero, suc, ◌+◌, ◌<◌, ◌≤◌, ◌↔◌, Bool, true, false, ◌||◌, not, cond, List, [], ◌∷◌, length, map, slice_get, get_or, Some, None, Option, IsTrue, refl, sym, ap, ◌∙◌, subst, All, below_more, inl, inr, arith, rules}
 use Rattle.std.specs.Prelude.{ℤ, option_map, ⊤, ◌==◌, ◌&&◌}
 use Rattle.std.specs.List.{list_any}
+use Rattle.std.proofs.lemmas.Bool.Decides.{nat_tests}
 use Rattle.std.proofs.lemmas.Option.{slice_get_within, slice_get_read, slice_get-get_or, slice_get_past}
 use Rattle.std.proofs.lemmas.List.{length-map}
 use Rattle.std.proofs.lemmas.List.Elements.{All-map}
@@ -124,7 +125,7 @@ released_tasks tasks all = λ k d within.
 released_phases : (tasks : List Task) → All (λ (z : Task). z.phase ≡ phase.Released) tasks → All (λ at. at ≡ phase.Released) (map (λ (z : Task). z.phase) tasks)
 released_phases tasks all = All-map (λ at. at ≡ phase.Released) (λ (z : Task). z.phase) tasks all
 
-phases_counted : (p : Program) (w : ℕ) (ready : Readiness) (m : List ℤ) (phs : List Phase) (x : Switch) (ns : List ReqNo) (es : List Entry) (ss : List Status) (a b c : ℕ)
+pub phases_counted : (p : Program) (w : ℕ) (ready : Readiness) (m : List ℤ) (phs : List Phase) (x : Switch) (ns : List ReqNo) (es : List Entry) (ss : List Status) (a b c : ℕ)
     → IsBook p w ready m phs x ns es ss a b c → length phs ≡ length p.tasks.items
 phases_counted p w ready m phs x ns es ss a b c book =
     ap (λ (z : List Phase). length z) book.kept.phases_are ∙ length-map (final p es).tasks (λ (z : Task). z.phase) ∙ book.kept.orderly.counted
@@ -191,8 +192,11 @@ pub none_among_past : (def : TaskDef) (k : ℕ) (req : ReqNo) → length def.bod
 unfolding awaited
 none_among_past def k req past = ap (λ (o : Option Op). list_any (same_request req) (awaited_by req.task.0 (nth_at def k) o)) (sym (slice_get_past def.body.items k past))
 
+one_nth : (t n m : ℕ) → (n == m) ≡ (((t == t) && (m == n)) || false)
+one_nth t n m = grind (arith, nat_tests)
+
 same_nth : (req : ReqNo) (n : ℕ) → (n == req.nth) ≡ list_any (same_request req) (request req.task.0 n ∷ [])
-same_nth req n = ?
+same_nth req n = one_nth req.task.0 n req.nth
 
 -- of one request that is awaited only where the operation blocks
 pub one_among : (req : ReqNo) (n : ℕ) (blocking : Bool) (result : Bool) → result ≡ (blocking && (n == req.nth)) → result ≡ list_any (same_request req) (cond blocking (request req.task.0 n ∷ []) [])

@@ -150,11 +150,13 @@ pub(crate) fn pending(engine: &Engine, req: ReqNo) -> u32
 
 // Whether a task in one of these phases awaits the request. Looks at the operations before the one in which the task is.
 fn is_awaited(prog: &Program, phases: &[Phase], req: ReqNo) -> bool
-    requires task { req.task.0 < length prog.now.tasks.items }
     requires phases { length phases.now ≡ length prog.now.tasks.items }
     requires few { length (def_of prog.now req.task.0).body.items < 2 ^ 32 }
     ensures { result ≡ awaits_now prog.now phases.now req }
 {
+    if req.task.0 as usize >= phases.len() {
+        return false;
+    }
     match phases[req.task.0 as usize] {
         Phase::Waiting => false,
         Phase::At(_) => false,
@@ -198,7 +200,6 @@ pub(crate) fn tell(notices: &mut Vec<ReqNo>, engine: &Engine, prog: &Program, ph
     requires same { engine.now.program ≡ prog.now }
     requires phases { length phases.now ≡ length prog.now.tasks.items }
     requires few { (t : ℕ) → length (def_of prog.now t).body.items < 2 ^ 32 }
-    requires task { IfSome partner (λ other. other.task.0 < length prog.now.tasks.items) }
     requires complete { IfSome partner (λ other. is_complete engine.now.program engine.now.exchange other ≡ true) }
     ensures items { notices.new.items ≡ notices.old.items ++ noticed_now prog.now phases.now partner }
     ensures places { vec_capacity notices.old ≤ vec_capacity notices.new }

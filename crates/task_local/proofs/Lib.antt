@@ -5,3 +5,5 @@ pub mod Programs
 pub mod Kernels
 pub mod Stands
 pub mod Samples
+pub mod Searches
+pub mod Fresh

@@ -1,5 +1,5 @@
 -- Regions rise by their first cells, and are the only such order of the filled accesses.
-use Rattle.std.proofs.Common.{◌≡◌, ◌≢◌, ℕ, zero, suc, ◌+◌, ◌-◌, ◌^◌, ◌<◌, ◌≤◌, Bool, true, false, not, cond, ◌==◌, List, [], ◌∷◌, get_or, All, AllPairs, filter, sum_by, IsPermutation, if◌then◌else◌, sym, ap, ap₂, ◌∙◌, refl, inl, inr, ⊎_elim, ◌⊎◌, arith}
+use Rattle.std.proofs.Common.{◌≡◌, ◌≢◌, ℕ, zero, suc, ◌+◌, ◌-◌, ◌^◌, ◌<◌, ◌≤◌, Bool, true, false, not, cond, ◌==◌, List, [], ◌∷◌, length, get_or, All, AllPairs, filter, sum_by, IsPermutation, if◌then◌else◌, sym, ap, ap₂, ◌∙◌, refl, inl, inr, ⊎_elim, ◌⊎◌, arith}
 use Rattle.std.proofs.lemmas.Bool.{cases_lt}
 use Rattle.std.proofs.lemmas.Bool.Decides.{nat_tests}
 use Rattle.std.proofs.lemmas.List.Elements.{All-nil, All-cons, All-head, All-tail, All-weaker}
@@ -11,23 +11,13 @@ use Rattle.rt_base.specs.declared.data.Mode.{Mode}
 use Rattle.rt_base.specs.declared.data.Mode.TheVariants as mode
 use Rattle.rt_base.specs.Spans.{span_len, Overlaps}
 use Rattle.task_local.specs.Regions.{begins_before, placed_in_order, regions}
-use Rattle.task_local.specs.Kept.{first_cell}
+use Rattle.task_local.specs.Kept.{first_cell, EndsBefore, IsRegion}
 use Rattle.task_local.proofs.Places.{is_filled, IsPermutation-placed_in_order, IsPermutation-regions, All-regions, regions_filled}
 
--- the region's first cell is below 2 ^ 32
-abbrev pub IsLow : Access → Type 0
-IsLow access = access.span.from < 2 ^ 32
-
--- each first cell comes before the later ones
+-- each region ends before the later ones begin
 abbrev pub Rises : List Access → Type 0
 Rises [] = Unit {0}
-Rises (access ∷ others) = All (λ (other : Access). first_cell access < first_cell other) others × Rises others
-
-before_true : (one other : Access) → IsLow one → IsLow other → begins_before one other ≡ true → first_cell one < first_cell other
-before_true one other low_one low_other before = grind (arith, nat_tests)
-
-before_false : (one other : Access) → IsLow one → IsLow other → begins_before one other ≡ false → first_cell other ≤ first_cell one
-before_false one other low_one low_other before = grind (arith, nat_tests)
+Rises (access ∷ others) = IsRegion access × All (EndsBefore access) others × Rises others
 
 pub filled_is : (access : Access) → is_filled access ≡ true → access.span.from < access.span.to
 filled_is access filled = grind (arith, nat_tests)
@@ -35,42 +25,72 @@ filled_is access filled = grind (arith, nat_tests)
 cases_le : (m n : ℕ) → (m ≤ n) ⊎ (n < m)
 cases_le m n = ⊎_elim (λ (lt : n < m). inr lt) (λ (le : m ≤ n). inl le) (cases_lt n m)
 
+-- a region that begins no later than another of its array, and shares no cell with it, ends before it begins
+ends_first : (one other : Access) → IsRegion one → IsRegion other → one.span.array ≡ other.span.array → one.span.from ≤ other.span.from
+    → ¬ Overlaps one.span other.span → one.span.to ≤ other.span.from
+ends_first one other is_one is_other array from apart =
+    ⊎_elim (λ (le : one.span.to ≤ other.span.from). le)
+    (λ (lt : other.span.from < one.span.to). absurd (apart (array, (other.span.from, (from, lt), (omega arith, is_other.0)))))
+    (cases_le one.span.to other.span.from)
+
+overlaps_too : (one other : Access) → ¬ Overlaps one.span other.span → ¬ Overlaps other.span one.span
+overlaps_too one other apart = λ shared. apart (sym shared.0, (shared.1.0, shared.1.2, shared.1.1))
+
+-- what the test of the definition means
+begins_true : (one other : Access) → begins_before one other ≡ true
+    → (one.span.array < other.span.array) ⊎ ((one.span.array ≡ other.span.array) × (one.span.from ≤ other.span.from))
+begins_true one other before =
+    ⊎_elim (λ (lt : one.span.array < other.span.array). inl lt)
+    (λ (ge : other.span.array ≤ one.span.array). inr (grind (arith, nat_tests), grind (arith, nat_tests)))
+    (cases_lt one.span.array other.span.array)
+
+begins_false : (one other : Access) → begins_before one other ≡ false
+    → (other.span.array < one.span.array) ⊎ ((other.span.array ≡ one.span.array) × (other.span.from ≤ one.span.from))
+begins_false one other before =
+    ⊎_elim (λ (lt : other.span.array < one.span.array). inl lt)
+    (λ (ge : one.span.array ≤ other.span.array). inr (grind (arith, nat_tests), grind (arith, nat_tests)))
+    (cases_lt other.span.array one.span.array)
+
+ends_before : (one other : Access) → IsRegion one → IsRegion other → ¬ Overlaps one.span other.span
+    → (one.span.array < other.span.array) ⊎ ((one.span.array ≡ other.span.array) × (one.span.from ≤ other.span.from)) → EndsBefore one other
+ends_before one other is_one is_other apart before =
+    ⊎_elim (λ (lt : one.span.array < other.span.array). omega (arith, is_one.1))
+    (λ (same : (one.span.array ≡ other.span.array) × (one.span.from ≤ other.span.from)).
+    let le = ends_first one other is_one is_other same.0 same.1 apart in omega (arith, same.0))
+    before
+
 -- ---- the regions of the definition rise
 
--- comes after the region
-abbrev After : Access → Access → Type 0
-After access other = first_cell access < first_cell other
-
-Rises-either : (access next : Access) (others placed : List Access) (first : Bool) → (first ≡ true → After access next)
-    → (first ≡ false → All (After next) placed) → Rises (next ∷ others) → Rises placed
+Rises-either : (access next : Access) (others placed : List Access) (first : Bool) → IsRegion access → (first ≡ true → EndsBefore access next)
+    → (first ≡ false → All (EndsBefore next) placed) → Rises (next ∷ others) → Rises placed
     → Rises (if first then access ∷ (next ∷ others) else next ∷ placed)
-Rises-either access next others placed true below later rises placed_rises =
-    let first : After access next = below refl in
-    (All-cons (After access) next others first (All-weaker (After next) (After access) (λ other lt. omega arith) others rises.0), rises)
-Rises-either access next others placed false below later rises placed_rises = (later refl, placed_rises)
+Rises-either access next others placed true is_region below later rises placed_rises =
+    let first : EndsBefore access next = below refl in
+    let filled : next.span.from < next.span.to = rises.0.0 in (
+      is_region,
+      All-cons (EndsBefore access) next others first
+          (All-weaker (EndsBefore next) (EndsBefore access) (λ other after. omega (arith, first, after)) others rises.1),
+      rises,
+    )
+Rises-either access next others placed false is_region below later rises placed_rises = (rises.0, later refl, placed_rises)
 
-Rises-placed : (access : Access) (others : List Access) → IsLow access → All IsLow others
-    → All (λ (other : Access). first_cell access ≢ first_cell other) others → Rises others → Rises (placed_in_order access others)
-Rises-placed access [] low all_low apart rises = (All-nil (After access), tt)
-Rises-placed access (next ∷ others) low all_low apart rises =
-    let next_low = All-head IsLow next others all_low in
-    let differs : first_cell access ≢ first_cell next = All-head (λ (other : Access). first_cell access ≢ first_cell other) next others apart in
-    let rest = Rises-placed access others low (All-tail IsLow next others all_low)
-    (All-tail (λ (other : Access). first_cell access ≢ first_cell other) next others apart) rises.1 in
-    Rises-either access next others _ (begins_before access next) (λ e. before_true access next low next_low e)
-    (λ e. let le : first_cell next ≤ first_cell access = before_false access next low next_low e in
-    All-permutation (After next) _ _ (IsPermutation-placed_in_order access others) (All-cons (After next) access others (omega arith) rises.0))
+-- shares no cell with the region
+abbrev Misses : Access → Access → Type 0
+Misses access other = ¬ Overlaps access.span other.span
+
+Rises-placed : (access : Access) (others : List Access) → IsRegion access → All IsRegion others → All (Misses access) others → Rises others
+    → Rises (placed_in_order access others)
+Rises-placed access [] is_region are_regions apart rises = (is_region, All-nil (EndsBefore access), tt)
+Rises-placed access (next ∷ others) is_region are_regions apart rises =
+    let next_is = All-head IsRegion next others are_regions in
+    let next_apart : Misses access next = All-head (Misses access) next others apart in
+    let rest = Rises-placed access others is_region (All-tail IsRegion next others are_regions) (All-tail (Misses access) next others apart) rises.2 in
+    Rises-either access next others _ (begins_before access next) is_region
+    (λ e. ends_before access next is_region next_is next_apart (begins_true access next e))
+    (λ e. All-permutation (EndsBefore next) _ _ (IsPermutation-placed_in_order access others)
+    (All-cons (EndsBefore next) access others
+    (ends_before next access next_is is_region (overlaps_too access next next_apart) (begins_false access next e)) rises.1))
     rises rest
-
--- filled regions that share no cell begin apart
-apart_begin : (one other : Access) → IsLow one → IsLow other → is_filled one ≡ true → is_filled other ≡ true
-    → ¬ Overlaps one.span other.span → first_cell one ≢ first_cell other
-apart_begin one other low_one low_other filled_one filled_other apart same =
-    let array : one.span.array ≡ other.span.array = omega arith in
-    let from : one.span.from ≡ other.span.from = omega arith in
-    let one_fills : one.span.from < one.span.to = filled_is one filled_one in
-    let other_fills : other.span.from < other.span.to = filled_is other filled_other in
-    apart (array, (one.span.from, (omega arith, omega arith), (omega arith, omega arith)))
 
 region_rises : (access : Access) (ordered : List Access) (empty : Bool) → (empty ≡ false → Rises (placed_in_order access ordered))
     → Rises ordered → Rises (if empty then ordered else placed_in_order access ordered)
@@ -87,25 +107,37 @@ AllPairs-head R x xs pairs = λ k d within. pairs zero (suc k) d (omega arith) (
 abbrev pub AreApart : List Access → Type 0
 AreApart accesses = AllPairs (λ (one other : Access). ¬ Overlaps one.span other.span) accesses
 
--- a filled access begins low
+-- a filled access has cells with low numbers
 abbrev pub IsLowFilled : Access → Type 0
-IsLowFilled access = is_filled access ≡ true → IsLow access
+IsLowFilled access = is_filled access ≡ true → access.span.to < 2 ^ 32
+
+pub all_regions : (accesses : List Access) → All IsLowFilled accesses → All IsRegion (regions accesses)
+all_regions accesses low = λ k d within.
+    let filled = regions_filled accesses k d within in
+    (filled_is (get_or (regions accesses) k d) filled, All-regions IsLowFilled accesses low k d within filled)
 
 pub Rises-regions : (accesses : List Access) → All IsLowFilled accesses → AreApart accesses → Rises (regions accesses)
 Rises-regions [] low apart = tt
 Rises-regions (access ∷ accesses) low apart =
-    let rest = Rises-regions accesses (All-tail IsLowFilled access accesses low) (AllPairs-tail (λ (one other : Access). ¬ Overlaps one.span other.span) access accesses apart) in
-    let filled = regions_filled accesses in
-    let low_rest = All-regions IsLowFilled accesses (All-tail IsLowFilled access accesses low) in
-    let apart_rest = All-regions (λ (other : Access). ¬ Overlaps access.span other.span) accesses
-    (AllPairs-head (λ (one other : Access). ¬ Overlaps one.span other.span) access accesses apart) in
+    let low_rest = All-tail IsLowFilled access accesses low in
+    let rest = Rises-regions accesses low_rest (AllPairs-tail Misses access accesses apart) in
+    let apart_rest = All-regions (Misses access) accesses (AllPairs-head Misses access accesses apart) in
     region_rises access (regions accesses) (span_len access.span == 0)
     (λ e. let here : is_filled access ≡ true = ap not e in
-    let low_here = All-head IsLowFilled access accesses low here in
-    Rises-placed access (regions accesses) low_here (λ k d within. low_rest k d within (filled k d within))
-    (λ k d within. apart_begin access (get_or (regions accesses) k d) low_here (low_rest k d within (filled k d within)) here (filled k d within) (apart_rest k d within))
-    rest)
+    Rises-placed access (regions accesses) (filled_is access here, All-head IsLowFilled access accesses low here) (all_regions accesses low_rest)
+    apart_rest rest)
     rest
+
+-- by places: each ends before each later one begins
+rises_at : (ordered : List Access) → Rises ordered → (i j : ℕ) (d : Access) → i < j → j < length ordered → EndsBefore (get_or ordered i d) (get_or ordered j d)
+rises_at [] rises i j d below within = absurd (omega arith)
+rises_at (x ∷ xs) rises zero zero d below within = absurd (omega arith)
+rises_at (x ∷ xs) rises zero (suc j) d below within = rises.1 j d (omega arith)
+rises_at (x ∷ xs) rises (suc i) zero d below within = absurd (omega arith)
+rises_at (x ∷ xs) rises (suc i) (suc j) d below within = rises_at xs rises.2 i j d (omega arith) (omega arith)
+
+pub regions_in_order : (accesses : List Access) → All IsLowFilled accesses → AreApart accesses → AllPairs EndsBefore (regions accesses)
+regions_in_order accesses low apart = λ i j d below within. rises_at (regions accesses) (Rises-regions accesses low apart) i j d below within
 
 -- ---- and no other list of the same accesses has them in this order
 
@@ -200,10 +232,13 @@ one_order [] [] rises climbs same = refl
 one_order [] (y ∷ ys) rises climbs same = absurd (omega (arith, same (λ access. 1), sum_by-cons (λ (access : Access). 1) y ys))
 one_order (x ∷ xs) [] rises climbs same = absurd (omega (arith, same (λ access. 1), sum_by-cons (λ (access : Access). 1) x xs))
 one_order (x ∷ xs) (y ∷ ys) rises climbs same =
+    let begun : x.span.from < x.span.to = rises.0.0 in
+    let later : All (λ (access : Access). first_cell x < first_cell access) xs =
+    All-weaker (EndsBefore x) (λ (access : Access). first_cell x < first_cell access) (λ access after. omega (arith, after)) xs rises.1 in
     let low : first_cell y ≤ first_cell x = not_below y ys x xs climbs.0 (λ f. sym (same f)) in
-    let high : first_cell x ≤ first_cell y = not_below x xs y ys (All-weaker (After x) (λ (access : Access). first_cell x ≤ first_cell access) (λ access lt. omega arith) xs rises.0) same in
+    let high : first_cell x ≤ first_cell y = not_below x xs y ys (All-weaker (λ (access : Access). first_cell x < first_cell access) (λ (access : Access). first_cell x ≤ first_cell access) (λ access lt. omega arith) xs later) same in
     let keys : first_cell y ≡ first_cell x = omega arith in
-    let none : sum_by (weigh (first_cell x) (λ access. differs_by access x)) xs ≡ 0 = weigh-others (first_cell x) (λ access. differs_by access x) xs (All-weaker (After x) (λ (access : Access). first_cell access ≢ first_cell x) (λ access lt. λ e. omega arith) xs rises.0) in
+    let none : sum_by (weigh (first_cell x) (λ access. differs_by access x)) xs ≡ 0 = weigh-others (first_cell x) (λ access. differs_by access x) xs (All-weaker (λ (access : Access). first_cell x < first_cell access) (λ (access : Access). first_cell access ≢ first_cell x) (λ access lt. λ e. omega arith) xs later) in
     let sums = same (weigh (first_cell x) (λ access. differs_by access x)) in
     let own : y ≡ x = differs_by-none y x (omega (
       arith,
@@ -215,7 +250,7 @@ one_order (x ∷ xs) (y ∷ ys) rises climbs same =
       sum_by-cons (weigh (first_cell x) (λ access. differs_by access x)) x xs,
       sum_by-cons (weigh (first_cell x) (λ access. differs_by access x)) y ys,
     )) in
-    let rest : xs ≡ ys = one_order xs ys rises.1 climbs.1
+    let rest : xs ≡ ys = one_order xs ys rises.2 climbs.1
     (λ f. omega (arith, same f, sum_by-cons f x xs, sum_by-cons f y ys, ap f own)) in
     ap₂ (λ (a : Access) (b : List Access). a ∷ b) (sym own) rest
 

@@ -95,7 +95,7 @@ sum_by-rises f g accesses i x within below here =
       sum_by-le-sum_by f g (drop (i + 1) accesses) below,
     )
 
-place-rises : (accesses : List Access) (array cell : ℕ) → Any (Declares array cell) accesses
+pub place-rises : (accesses : List Access) (array cell : ℕ) → Any (Declares array cell) accesses
     → place_in accesses array cell + 1 ≤ place_in accesses array (cell + 1)
 place-rises accesses array cell any =
     sum_by-rises (cells_before array cell) (cells_before array (cell + 1)) accesses any.0 any.1 any.2 (cells_before-rises array cell)

@@ -1,5 +1,5 @@
 -- What a record keeps in its fields. No clause of a public call cites this module.
-use Rattle.std.specs.Prelude.{◌≡◌, ℕ, ◌+◌, ◌*◌, ◌^◌, ◌<◌, ◌≤◌, List, [], length, take, drop, All, slice_get, sum_by, ℤ, pos, ◌≤ℤ◌, Option, Some, None, false, if◌then◌else◌, ⊤}
+use Rattle.std.specs.Prelude.{◌≡◌, ℕ, ◌+◌, ◌*◌, ◌^◌, ◌<◌, ◌≤◌, List, [], length, take, drop, All, AllPairs, slice_get, slice_index, slice_index_or, sum_by, ℤ, pos, ◌≤ℤ◌, Option, Some, None, false, if◌then◌else◌, ⊤}
 use Rattle.rt_base.specs.declared.data.Span.{Span}
 use Rattle.rt_base.specs.declared.data.Access.{Access}
 use Rattle.rt_base.specs.declared.data.Kernel.{Kernel}
@@ -44,9 +44,20 @@ pub record IsKept (program : Program) (t : ℕ) (where_at : Phase) (ordered : Li
   pub cells : length copy ≡ declared_cells task
   pub room : HasRoomFor task.body.items (length scratch)
 
--- the number of a region's first cell, by array and then by cell
+-- the number of a region's first cell, by array and then by cell, and that of the place behind its last
 abbrev pub first_cell : Access → ℕ
 first_cell access = access.span.array * 2 ^ 32 + access.span.from
+
+abbrev pub end_cell : Access → ℕ
+end_cell access = access.span.array * 2 ^ 32 + access.span.to
+
+-- the region ends before the other begins
+abbrev pub EndsBefore : Access → Access → Type 0
+EndsBefore access other = end_cell access ≤ first_cell other
+
+-- the region has a cell, and its cells have low numbers
+abbrev pub IsRegion : Access → Type 0
+IsRegion access = (access.span.from < access.span.to) × (access.span.to < 2 ^ 32)
 
 -- how many cells a kernel takes from its sources for so many in its destination, and which number
 abbrev pub TakesCells : Kernel → ℕ → ℕ → ℕ → ℤ → Type 0
@@ -121,3 +132,26 @@ pub record LiesIn (program : Program) (rank : ℕ) (access : Access) : Type 0 wh
   pub inside : address program rank access.span.array access.span.from + span_len access.span ≤ memory_len program
   pub few : length program.lens.items ≤ 65536
   pub small : memory_len program ≤ 16777216
+
+-- for each region how many cells come before it
+pub record HasOffsets (ordered : List Access) (offsets : List ℕ) : Type 0 where
+  pub len : length offsets ≡ length ordered
+  pub before : (i : ℕ) → i < length ordered → slice_index offsets i ≡ cell_total (take i ordered)
+
+-- regions in order, not too many cells, and the place of each
+pub record IsIndex (ordered : List Access) (offsets : List ℕ) : Type 0 where
+  pub filled : All IsRegion ordered
+  pub order : AllPairs EndsBefore ordered
+  pub total : cell_total ordered < 2 ^ 63
+  pub places : HasOffsets ordered offsets
+
+-- regions that begin at a cell of this number or before it come first, so many
+pub record HasBegun (ordered : List Access) (number count : ℕ) : Type 0 where
+  pub within : count ≤ length ordered
+  pub begun : (i : ℕ) (d : Access) → i < count → first_cell (slice_index_or ordered i d) ≤ number
+  pub later : (i : ℕ) (d : Access) → count ≤ i → i < length ordered → number < first_cell (slice_index_or ordered i d)
+
+-- where the array that was met last begins in the memory of all ranks, if one was met
+abbrev pub HasMet : Program → ℕ → Option (ℕ × ℕ) → Type 0
+HasMet program rank None = ⊤
+HasMet program rank (Some met) = met.1 ≡ address program rank met.0 0

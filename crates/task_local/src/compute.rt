@@ -1,35 +1,34 @@
 //! Local operations: kernels on the copy of a task.
 
-ghost use Rattle.std.specs.Prelude.{◌≡◌, ◌+◌, ◌^◌, ◌<◌, ◌≤◌, length, drop, All};
+ghost use Rattle.std.specs.Prelude.{◌≡◌, ◌^◌, ◌<◌, ◌≤◌, length, drop, All};
 ghost use Rattle.rt_base.specs.Spans.{span_len};
 ghost use Rattle.task_local.specs.Regions.{regions};
 ghost use Rattle.task_local.specs.Local.{kernel_value, computed, run_front, stop_at};
-ghost use Rattle.task_local.specs.Kept.{cell_total, SourceFits, TakesCells, CanRun, FitsSend, source_in, sent_in};
+ghost use Rattle.task_local.specs.Kept.{SourceFits, TakesCells, CanRun, FitsSend, source_in, sent_in};
 
-use crate::regions::{cells_in, put_cells};
+use crate::index::{RegionIndex, cells_in, put_cells};
 use crate::standing::cell_count;
-use rt_base::{Access, How, Kernel, Op, Phase, Span, TaskDef};
+use rt_base::{How, Kernel, Op, Phase, Span, TaskDef};
 
 // Runs the local operations from this one on, up to the first other operation or the end of the body.
 pub(crate) fn run_from(
     def: &TaskDef,
-    ordered: &[Access],
+    index: &RegionIndex,
     copy: &mut [i64],
     scratch: &mut [i64],
     first: u32,
 ) -> Phase
-    requires regions { ordered.now ≡ regions def.now.accesses.items }
-    requires total { cell_total ordered.now < 2 ^ 63 }
+    requires regions { index.now ≡ regions def.now.accesses.items }
     requires place { first ≤ length def.now.body.items }
     requires few { length def.now.body.items < 2 ^ 32 }
-    requires can { All (CanRun ordered.now (length copy.old) (length scratch.old)) def.now.body.items }
+    requires can { All (CanRun index.now (length copy.old) (length scratch.old)) def.now.body.items }
     ensures copy { copy.new ≡ run_front def.now (drop first def.now.body.items) copy.old }
     ensures phase { result ≡ stop_at first (drop first def.now.body.items) }
 {
     let body = def.body.as_slice();
     for k in first as usize..body.len() {
         match &body[k] {
-            Op::Compute { .. } => run_operation(def, ordered, copy, scratch, &body[k]),
+            Op::Compute { .. } => run_operation(def, index, copy, scratch, &body[k]),
             Op::Post { .. } => return Phase::At(k as u32),
             Op::Await { .. } => return Phase::At(k as u32),
         }
@@ -38,10 +37,9 @@ pub(crate) fn run_from(
 }
 
 // Runs an operation on the copy, where it is a local one. All sources are read before a cell is written.
-fn run_operation(def: &TaskDef, ordered: &[Access], copy: &mut [i64], scratch: &mut [i64], op: &Op)
-    requires regions { ordered.now ≡ regions def.now.accesses.items }
-    requires total { cell_total ordered.now < 2 ^ 63 }
-    requires can { CanRun ordered.now (length copy.old) (length scratch.old) op.now }
+fn run_operation(def: &TaskDef, index: &RegionIndex, copy: &mut [i64], scratch: &mut [i64], op: &Op)
+    requires regions { index.now ≡ regions def.now.accesses.items }
+    requires can { CanRun index.now (length copy.old) (length scratch.old) op.now }
     ensures { copy.new ≡ computed def.now op.now copy.old }
 {
     match op {
@@ -54,10 +52,10 @@ fn run_operation(def: &TaskDef, ordered: &[Access], copy: &mut [i64], scratch: &
             step,
         } => {
             let cells = &mut scratch[..cell_count(*dst)];
-            let from = source(ordered, copy, *left);
-            let with = source(ordered, copy, *right);
+            let from = source(index, copy, *left);
+            let with = source(index, copy, *right);
             run_kernel(*kernel, cells, from, with, *value, *step);
-            put_cells(ordered, copy, *dst, cells);
+            put_cells(index, copy, *dst, cells);
         }
         Op::Post { .. } => {}
         Op::Await { .. } => {}
@@ -65,13 +63,12 @@ fn run_operation(def: &TaskDef, ordered: &[Access], copy: &mut [i64], scratch: &
 }
 
 // The cells of a source in the copy, none where there is no such source.
-fn source<'c>(ordered: &[Access], copy: &'c [i64], span: Option<Span>) -> &'c [i64]
-    requires total { cell_total ordered.now < 2 ^ 63 }
-    requires fits { SourceFits ordered.now (length copy.now) span }
-    ensures { result.now ≡ source_in ordered.now copy.now span }
+fn source<'c>(index: &RegionIndex, copy: &'c [i64], span: Option<Span>) -> &'c [i64]
+    requires fits { SourceFits index.now (length copy.now) span }
+    ensures { result.now ≡ source_in index.now copy.now span }
 {
     match span {
-        Some(span) => cells_in(ordered, copy, span),
+        Some(span) => cells_in(index, copy, span),
         None => &[],
     }
 }
@@ -98,15 +95,14 @@ fn run_kernel(kind: Kernel, dst: &mut [i64], left: &[i64], right: &[i64], value:
 }
 
 // The cells that an operation sends, none where it is no send.
-pub(crate) fn sent_cells<'c>(ordered: &[Access], copy: &'c [i64], op: &Op) -> &'c [i64]
-    requires total { cell_total ordered.now < 2 ^ 63 }
-    requires fits { FitsSend ordered.now (length copy.now) op.now }
-    ensures { result.now ≡ sent_in ordered.now copy.now op.now }
+pub(crate) fn sent_cells<'c>(index: &RegionIndex, copy: &'c [i64], op: &Op) -> &'c [i64]
+    requires fits { FitsSend index.now (length copy.now) op.now }
+    ensures { result.now ≡ sent_in index.now copy.now op.now }
 {
     match op {
         Op::Compute { .. } => &[],
         Op::Post { how, span, .. } => match how {
-            How::Send | How::Ssend | How::Isend | How::Issend => cells_in(ordered, copy, *span),
+            How::Send | How::Ssend | How::Isend | How::Issend => cells_in(index, copy, *span),
             How::Recv | How::Irecv => &[],
         },
         Op::Await { .. } => &[],

@@ -2,9 +2,10 @@
 #![tactic(auto)]
 
 mod compute;
+mod index;
 pub mod laws;
+mod memory;
 mod record;
-mod regions;
 mod standing;
 #[cfg(test)]
 mod tests;

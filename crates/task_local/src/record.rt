@@ -6,12 +6,14 @@ ghost use Rattle.rt_base.specs.Spans.{span_len};
 ghost use Rattle.rt_base.specs.Layout.{memory_len};
 ghost use Rattle.rt_base.specs.WellFormed.{WellFormed, IsDeclared};
 ghost use Rattle.task_local.specs.Regions.{put, loaded, saved};
+ghost use Rattle.task_local.specs.StandsFor.{declared_cells};
 ghost use Rattle.task_local.specs.Standing.{def, at_phase, moved_on, packed_next, Follows, IsAtCall};
 
 use crate::compute::{run_from, sent_cells};
-use crate::regions::{cell_total_of, load_regions, ordered_regions, put_cells, save_regions};
+use crate::index::{RegionIndex, put_cells};
+use crate::memory::{load_regions, save_regions};
 use crate::standing::{At, at_phase_of, longest_destination, operation, task_def};
-use rt_base::{Access, Cells, Phase, Program, Span, TaskNo};
+use rt_base::{Cells, Phase, Program, Span, TaskNo};
 use std::alloc::{AllocError, Global};
 use std::marker::Model;
 use std::snapshot::Snapshot;
@@ -22,7 +24,7 @@ pub struct TaskRec {
     program: Snapshot<Program>,
     task: TaskNo,
     phase: Phase,
-    ordered: Vec<Access>,
+    regions: RegionIndex,
     copy: Vec<i64>,
     scratch: Vec<i64>,
 }
@@ -35,7 +37,7 @@ impl Model for TaskRec {
 
     ghost view = { λ held. record { program = held.program.value; task = held.task.0; phase = held.phase; copy = held.copy.items } };
 
-    ghost invariant = { λ held. IsKept held.program.value held.task.0 held.phase held.ordered.items held.copy.items held.scratch.items };
+    ghost invariant = { λ held. IsKept held.program.value held.task.0 held.phase held.regions held.copy.items held.scratch.items };
 }
 
 impl TaskRec {
@@ -48,14 +50,14 @@ impl TaskRec {
         ensures phase { IfOk result (λ held. held.phase ≡ phase.Waiting) }
     {
         let def = task_def(prog, task);
-        let ordered = ordered_regions(alloc, def.accesses.as_slice())?;
-        let copy = vec![in alloc; 0; cell_total_of(ordered.as_slice())]?;
+        let regions = RegionIndex::make(alloc, def.accesses.as_slice())?;
+        let copy = vec![in alloc; 0; regions.cell_total()]?;
         let scratch = vec![in alloc; 0; longest_destination(def.body.as_slice())]?;
         Ok(TaskRec {
             program: Snapshot::of(prog),
             task,
             phase: Phase::Waiting,
-            ordered,
+            regions,
             copy,
             scratch,
         })
@@ -71,7 +73,10 @@ impl TaskRec {
     /// How the task stands.
     pub fn at(&self, prog: &Program) -> At
         requires same { prog.now ≡ self.now.program }
-        ensures { result ≡ at_phase (def self.now) self.now.phase }
+        ensures at { result ≡ at_phase (def self.now) self.now.phase }
+
+        // The copy has each declared cell once.
+        ensures cells { length self.now.copy ≡ declared_cells (def self.now) }
     {
         at_phase_of(task_def(prog, self.task), self.phase)
     }
@@ -87,7 +92,7 @@ impl TaskRec {
             Phase::Waiting => {}
             Phase::At(k) => self.phase = run_from(
                 def,
-                &self.ordered,
+                &self.regions,
                 &mut self.copy,
                 &mut self.scratch,
                 k,
@@ -108,7 +113,13 @@ impl TaskRec {
         ensures { self.new ≡ record self.old { copy = loaded prog.now (def self.old) memory.now } }
     {
         let def = task_def(prog, self.task);
-        load_regions(prog, def.rank, &self.ordered, memory, &mut self.copy);
+        load_regions(
+            prog,
+            def.rank,
+            self.regions.as_slice(),
+            memory,
+            &mut self.copy,
+        );
     }
 
     /// Puts the task's `out` and `inout` cells back into the cells of all arrays of all ranks.
@@ -120,7 +131,7 @@ impl TaskRec {
         ensures { memory.new ≡ saved prog.now (def self.now) self.now.copy memory.old }
     {
         let def = task_def(prog, self.task);
-        save_regions(prog, def.rank, &self.ordered, &self.copy, memory);
+        save_regions(prog, def.rank, self.regions.as_slice(), &self.copy, memory);
     }
 
     /// Sets where the task stands, to a phase that follows.
@@ -143,7 +154,7 @@ impl TaskRec {
         ensures { self.new ≡ record self.old { copy = put (def self.old) span cells.now self.old.copy } }
     {
         let _ = prog;
-        put_cells(&self.ordered, &mut self.copy, span, cells);
+        put_cells(&self.regions, &mut self.copy, span, cells);
     }
 
     /// The cells that the call that is next sends, none where it is no send.
@@ -157,7 +168,7 @@ impl TaskRec {
         match self.phase {
             Phase::At(k) => listed(
                 alloc,
-                sent_cells(&self.ordered, &self.copy, operation(def, k)),
+                sent_cells(&self.regions, &self.copy, operation(def, k)),
             ),
             Phase::Waiting | Phase::In(_) | Phase::Ended | Phase::Returned | Phase::Released => Ok(
                 Cells::empty(alloc),

@@ -3,9 +3,10 @@ use Rattle.std.proofs.Common.{◌≡◌, ◌∙◌, refl, sym, ap, List, [], get
 use Rattle.rt_base.specs.declared.data.Op.{Op}
 use Rattle.rt_base.specs.declared.data.Op.TheVariants as op
 use Rattle.rt_base.specs.declared.data.Handle.{Handle}
-use Rattle.rt_base.specs.Operations.{blocks, named_requests}
+use Rattle.rt_base.specs.Operations.{blocks, named_requests, nth_at}
 use Rattle.rt_base.specs.Matching.{same_request}
 use Rattle.std.specs.List.{list_any}
+use Rattle.std.specs.Prelude.{◌==◌, ◌&&◌}
 use Rattle.core_book.proofs.Questions.{at_place, awaited_among, none_among_past, one_among}
 use Rattle.core_book.proofs.posting.is_awaited_in.Goals as goal
 
@@ -24,14 +25,18 @@ returns-then-blocks c =
     let i = c.in-Post in
     let x : Op = op.Post i.how i.span i.peer i.tag i.comm i.status in
     awaited_among c.args.def.now c.args.k x c.args.req _ (at_place c.args.def.now.body.items c.args.k c.index-as_slice-k.result x (omega arith)
-      (c.index-as_slice-k.is ∙ ap (λ (ops : List Op). get_or ops c.args.k c.index-as_slice-k.result) c.as_slice.ensures) i.is) ?
+      (c.index-as_slice-k.is ∙ ap (λ (ops : List Op). get_or ops c.args.k c.index-as_slice-k.result) c.as_slice.ensures) i.is)
+      (one_among c.args.req (nth_at c.args.def.now c.args.k) (blocks i.how) _
+        (ap (λ n. n == c.args.req.nth) c.nth_at.ensures ∙ sym (ap (λ b. b && (nth_at c.args.def.now c.args.k == c.args.req.nth)) (sym c.blocks-in-Post.ensures ∙ c.if-blocks.true))))
 
 pub returns-else-blocks : goal.returns-else-blocks
 returns-else-blocks c =
     let i = c.in-Post in
     let x : Op = op.Post i.how i.span i.peer i.tag i.comm i.status in
     awaited_among c.args.def.now c.args.k x c.args.req _ (at_place c.args.def.now.body.items c.args.k c.index-as_slice-k.result x (omega arith)
-      (c.index-as_slice-k.is ∙ ap (λ (ops : List Op). get_or ops c.args.k c.index-as_slice-k.result) c.as_slice.ensures) i.is) ?
+      (c.index-as_slice-k.is ∙ ap (λ (ops : List Op). get_or ops c.args.k c.index-as_slice-k.result) c.as_slice.ensures) i.is)
+      (one_among c.args.req (nth_at c.args.def.now c.args.k) (blocks i.how) _
+        (c.if-blocks.false ∙ sym (ap (λ b. b && (nth_at c.args.def.now c.args.k == c.args.req.nth)) (sym c.blocks-in-Post.ensures ∙ c.if-blocks.false))))
 
 pub returns-in-Await : goal.returns-in-Await
 returns-in-Await c =

@@ -6,37 +6,34 @@ use Rattle.task_local.proofs.Places.{cell_total-regions}
 use Rattle.task_local.proofs.Programs.{task_is, filled_low, few_cells}
 use Rattle.task_local.proofs.record.TaskRec.make.Goals as goal
 
-pub ordered_regions-requires-clause-low : goal.ordered_regions-requires-clause-low
-ordered_regions-requires-clause-low c =
+pub make-requires-clause-low : goal.make-requires-clause-low
+make-requires-clause-low c =
     let def = c.task_def-def.result.now in
     rw c.as_slice.ensures (filled_low c.args.prog.now def c.requires.well_formed (task_is c.args.prog.now c.args.task.0 def c.requires.well_formed c.task_def-def.ensures))
 
-pub ordered_regions-requires-clause-apart : goal.ordered_regions-requires-clause-apart
-ordered_regions-requires-clause-apart c =
+pub make-requires-clause-apart : goal.make-requires-clause-apart
+make-requires-clause-apart c =
     let def = c.task_def-def.result.now in
     rw c.as_slice.ensures (task_is c.args.prog.now c.args.task.0 def c.requires.well_formed c.task_def-def.ensures).apart
 
-pub cell_total_of-requires : goal.cell_total_of-requires
-cell_total_of-requires c =
-    let def = c.task_def-def.result.now in
-    let few = few_cells c.args.prog.now c.args.task.0 def c.requires.well_formed c.task_def-def.ensures in
-    let cells : cell_total c.as_slice-2.result.now ≡ cell_total def.accesses.items =
-    ap cell_total (c.as_slice-2.ensures.value ∙ c.in_ok-ordered.ensures ∙ ap regions c.as_slice.ensures) ∙ cell_total-regions def.accesses.items in
-    omega arith
+pub make-requires-clause-total : goal.make-requires-clause-total
+make-requires-clause-total c =
+    let few = few_cells c.args.prog.now c.args.task.0 c.task_def-def.result.now c.requires.well_formed c.task_def-def.ensures in
+    rw c.as_slice.ensures (omega arith)
 
 pub invariant_of-result : goal.invariant_of-result
 invariant_of-result c =
     let def = c.task_def-def.result.now in
-    let cells : cell_total c.as_slice-2.result.now ≡ cell_total def.accesses.items =
-    ap cell_total (c.as_slice-2.ensures.value ∙ c.in_ok-ordered.ensures ∙ ap regions c.as_slice.ensures) ∙ cell_total-regions def.accesses.items in
+    let regions_are : c.in_ok-regions.regions ≡ regions def.accesses.items = c.in_ok-regions.ensures ∙ ap regions c.as_slice.ensures in
+    let cells : cell_total c.in_ok-regions.regions ≡ cell_total def.accesses.items = ap cell_total regions_are ∙ cell_total-regions def.accesses.items in
     let made = c.in_ok-copy.ensures in
     let scratch = c.in_ok-scratch.ensures in
-    let room = subst (λ (ops : List Op). HasRoomFor ops c.longest_destination.result) c.as_slice-3.ensures c.longest_destination.ensures in
+    let room = subst (λ (ops : List Op). HasRoomFor ops c.longest_destination.result) c.as_slice-2.ensures c.longest_destination.ensures in
     record {
       task = def;
       is_task = rw c.of.ensures c.task_def-def.ensures;
       place = tt;
-      ordered_regions = c.in_ok-ordered.ensures ∙ ap regions c.as_slice.ensures;
+      ordered_regions = regions_are;
       cells = omega (arith, made.len, c.in_ok-copy.copy.ok.0);
       room = λ k d within. let fits = room k d within in omega (arith, scratch.len, c.in_ok-scratch.scratch.ok.0);
     }

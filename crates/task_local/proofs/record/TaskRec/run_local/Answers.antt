@@ -4,15 +4,8 @@ use Rattle.task_local.specs.Local.{run_front}
 use Rattle.task_local.specs.Kept.{IsPhaseOf}
 use Rattle.task_local.specs.StandsFor.{Record}
 use Rattle.task_local.specs.Standing.{def, moved_on}
-use Rattle.task_local.proofs.Programs.{record_total, record_can_run, few_operations, stop_is_phase, one_task, def_is, moved_on_is}
+use Rattle.task_local.proofs.Programs.{record_can_run, few_operations, stop_is_phase, one_task, def_is, moved_on_is}
 use Rattle.task_local.proofs.record.TaskRec.run_local.Goals as goal
-
-pub run_from-self-inside-requires-clause-total : goal.run_from-self-inside-requires-clause-total
-run_from-self-inside-requires-clause-total c =
-    let same = rw (← c.self.view_is) at c.requires.same in
-    let total = record_total c.args.prog.now c.self.inside.program.value c.self.inside.task.0 c.task_def-def.result.now c.self.invariant.task c.self.inside.ordered.items
-    c.requires.well_formed same c.task_def-def.ensures c.self.invariant.is_task c.self.invariant.ordered_regions in
-    rw c.deref.ensures.value (omega arith)
 
 pub run_from-self-inside-requires-clause-few : goal.run_from-self-inside-requires-clause-few
 run_from-self-inside-requires-clause-few c =
@@ -21,8 +14,8 @@ run_from-self-inside-requires-clause-few c =
 pub run_from-self-inside-requires-clause-can : goal.run_from-self-inside-requires-clause-can
 run_from-self-inside-requires-clause-can c =
     let same = rw (← c.self.view_is) at c.requires.same in
-    rw (c.deref.ensures.value, c.deref_mut.ensures.value, c.deref_mut-in-At.ensures.value)
-    (record_can_run c.args.prog.now c.self.inside.program.value c.self.inside.task.0 c.task_def-def.result.now c.self.invariant.task c.self.inside.ordered.items _ _
+    rw (c.deref_mut.ensures.value, c.deref_mut-in-At.ensures.value)
+    (record_can_run c.args.prog.now c.self.inside.program.value c.self.inside.task.0 c.task_def-def.result.now c.self.invariant.task c.self.inside.regions _ _
     c.requires.well_formed same c.task_def-def.ensures c.self.invariant.is_task c.self.invariant.ordered_regions c.self.invariant.cells c.self.invariant.room)
 
 pub invariant_of-self : goal.invariant_of-self

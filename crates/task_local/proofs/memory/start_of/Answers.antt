@@ -1,6 +1,6 @@
 use Rattle.std.proofs.Common.{◌≡◌, ◌*◌, ap, arith}
 use Rattle.rt_base.specs.Layout.{array_count}
-use Rattle.task_local.proofs.regions.address_of.Goals as goal
+use Rattle.task_local.proofs.memory.start_of.Goals as goal
 
 pub overflow_mul-place : goal.overflow_mul-place
 overflow_mul-place c =
@@ -12,6 +12,3 @@ overflow_add-place c =
 
 pub total_len-requires : goal.total_len-requires
 total_len-requires c = rw (c.len.ensures, c.as_slice.ensures) (omega arith)
-
-pub overflow_add-result : goal.overflow_add-result
-overflow_add-result c = rw (c.total_len.ensures, c.len.ensures, c.as_slice.ensures) (omega arith)

@@ -3,7 +3,7 @@ use Rattle.std.proofs.lemmas.List.Sorted.{IsNonDecreasingBy-from_sort_by_key}
 use Rattle.rt_base.specs.declared.data.Access.{Access}
 use Rattle.task_local.specs.Kept.{first_cell}
 use Rattle.task_local.proofs.Order.{sorted_is_regions}
-use Rattle.task_local.proofs.regions.ordered_regions.Goals as goal
+use Rattle.task_local.proofs.index.ordered_regions.Goals as goal
 
 -- what the sort left are the regions, since there is but one such order
 pub returns : goal.returns

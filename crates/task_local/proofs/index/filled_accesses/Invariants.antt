@@ -1,6 +1,6 @@
 use Rattle.std.proofs.Common.{◌≡◌, take, filter}
 use Rattle.task_local.proofs.Places.{is_filled}
-use Rattle.task_local.proofs.regions.filled_accesses.Given as goal
+use Rattle.task_local.proofs.index.filled_accesses.Given as goal
 
 -- the filled accesses so far
 abbrev pub invariant-loop-access : goal.invariant-loop-access

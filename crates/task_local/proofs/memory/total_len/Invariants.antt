@@ -1,5 +1,5 @@
 use Rattle.std.proofs.Common.{◌≡◌, take, sum}
-use Rattle.task_local.proofs.regions.total_len.Given as goal
+use Rattle.task_local.proofs.memory.total_len.Given as goal
 
 -- the sum of the lengths so far
 abbrev pub invariant-loop-len : goal.invariant-loop-len

@@ -1,6 +1,6 @@
 use Rattle.std.proofs.Common.{◌≡◌, take}
 use Rattle.task_local.specs.Kept.{cell_total}
-use Rattle.task_local.proofs.regions.cell_total_of.Given as goal
+use Rattle.task_local.proofs.index.cell_total_of.Given as goal
 
 -- the cells of the regions so far
 abbrev pub invariant-loop-access : goal.invariant-loop-access
