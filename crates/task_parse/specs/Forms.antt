@@ -1,6 +1,5 @@
--- The forms of text that are read (this project's).
+-- The form of text that is read (this project's).
 use Rattle.std.specs.Prelude.{Bool, true, false, ◌&&◌, List, [], ◌∷◌, if◌then◌else◌}
-use Rattle.rt_base.specs.declared.data.Mode.TheVariants as mode
 use Rattle.task_parse.specs.declared.form.Part.{Part}
 use Rattle.task_parse.specs.declared.form.Part.TheVariants as part
 use Rattle.task_parse.specs.declared.tree.What.{What}
@@ -12,10 +11,8 @@ abbrev pub is_in : Part → What → Bool
 is_in part.Array (what.Array _ _) = true
 is_in part.Show (what.Show _) = true
 is_in part.Task what.Task = true
-is_in part.Output (what.Touch mode.Out _) = true
 is_in part.Access (what.Touch _ _) = true
 is_in part.Do what.Do = true
-is_in part.Fill (what.Fill _ _) = true
 is_in part.Operation (what.Fill _ _) = true
 is_in part.Operation (what.Copy _ _) = true
 is_in part.Operation (what.Posting _ _ _ _) = true
@@ -33,29 +30,15 @@ is_end [] = false
 is_end (stmt ∷ []) = is_in part.End stmt.what
 is_end (stmt ∷ _ ∷ _) = false
 
--- `do`, statements of this part, `end`
-abbrev pub is_body : Part → List Stmt → Bool
-is_body place [] = false
-is_body place (stmt ∷ stmts) = is_in part.Do stmt.what && is_end (behind place stmts)
-
--- one `out` line, `do`, `fill` lines, `end`
-abbrev pub is_output_and_fills : List Stmt → Bool
-is_output_and_fills [] = false
-is_output_and_fills (stmt ∷ stmts) = is_in part.Output stmt.what && is_body part.Fill stmts
-
--- nothing, or one task with one `out` line and with `fill` lines
-abbrev pub is_plain_task : List Stmt → Bool
-is_plain_task [] = true
-is_plain_task (stmt ∷ stmts) = is_in part.Task stmt.what && is_output_and_fills stmts
+-- `do`, operations, `end`
+abbrev pub is_body : List Stmt → Bool
+is_body [] = false
+is_body (stmt ∷ stmts) = is_in part.Do stmt.what && is_end (behind part.Operation stmts)
 
 -- nothing, or one task: `task`, access lines, `do`, operations, `end`
 abbrev pub is_one_task : List Stmt → Bool
 is_one_task [] = true
-is_one_task (stmt ∷ stmts) = is_in part.Task stmt.what && is_body part.Operation (behind part.Access stmts)
-
--- form one: `array` lines, `show` lines, and at most one task, which fills cells of one `out` access
-unfoldable pub is_form_one : List Stmt → Bool
-is_form_one stmts = is_plain_task (behind part.Show (behind part.Array stmts))
+is_one_task (stmt ∷ stmts) = is_in part.Task stmt.what && is_body (behind part.Access stmts)
 
 -- form two: `array` lines, `show` lines, and at most one task
 unfoldable pub is_form_two : List Stmt → Bool

@@ -1,27 +1,22 @@
-//! The forms of text that are read.
+//! The form of text that is read.
 
 ghost use Rattle.std.specs.Prelude.{◌≡◌, ◌≤◌, length};
 ghost use Rattle.std.specs.List.{prefix_len};
-ghost use Rattle.task_parse.specs.Forms.{is_in, behind, is_end, is_body, is_output_and_fills, is_plain_task, is_one_task, is_form_one, is_form_two};
+ghost use Rattle.task_parse.specs.Forms.{is_in, behind, is_end, is_body, is_one_task, is_form_two};
 
 use crate::bytes;
 use crate::tree::{Stmt, What};
-use rt_base::Mode;
 
-/// A part of a text of these forms.
+/// A part of a text of the form that is read.
 #[derive(Clone, Copy)]
 pub enum Part {
     Array,
     Show,
     Task,
-    /// An `out` line.
-    Output,
-    /// An access line of any mode.
+    /// An access line.
     Access,
     Do,
-    /// A `fill` line.
-    Fill,
-    /// Any operation.
+    /// An operation.
     Operation,
     End,
 }
@@ -34,16 +29,8 @@ fn is_in(part: Part, what: &What) -> bool
         Part::Array => matches!(what, What::Array { .. }),
         Part::Show => matches!(what, What::Show { .. }),
         Part::Task => matches!(what, What::Task),
-        Part::Output => matches!(
-            what,
-            What::Touch {
-                mode: Mode::Out,
-                ..
-            }
-        ),
         Part::Access => matches!(what, What::Touch { .. }),
         Part::Do => matches!(what, What::Do),
-        Part::Fill => matches!(what, What::Fill { .. }),
         Part::Operation => matches!(
             what,
             What::Fill { .. } | What::Copy { .. } | What::Posting { .. }
@@ -77,31 +64,12 @@ fn is_end(stmts: &[Stmt]) -> bool
     }
 }
 
-// A body, all of whose operations are of the part.
-fn is_body(part: Part, stmts: &[Stmt]) -> bool
-    ensures { result ≡ is_body part stmts.now }
+fn is_body(stmts: &[Stmt]) -> bool
+    ensures { result ≡ is_body stmts.now }
 {
     match stmts {
         [] => false,
-        [stmt, rest @ ..] => is_in(Part::Do, &stmt.what) && is_end(behind(part, rest)),
-    }
-}
-
-fn is_output_and_fills(stmts: &[Stmt]) -> bool
-    ensures { result ≡ is_output_and_fills stmts.now }
-{
-    match stmts {
-        [] => false,
-        [stmt, rest @ ..] => is_in(Part::Output, &stmt.what) && is_body(Part::Fill, rest),
-    }
-}
-
-fn is_plain_task(stmts: &[Stmt]) -> bool
-    ensures { result ≡ is_plain_task stmts.now }
-{
-    match stmts {
-        [] => true,
-        [stmt, rest @ ..] => is_in(Part::Task, &stmt.what) && is_output_and_fills(rest),
+        [stmt, rest @ ..] => is_in(Part::Do, &stmt.what) && is_end(behind(Part::Operation, rest)),
     }
 }
 
@@ -111,17 +79,9 @@ fn is_one_task(stmts: &[Stmt]) -> bool
     match stmts {
         [] => true,
         [stmt, rest @ ..] => {
-            is_in(Part::Task, &stmt.what) && is_body(Part::Operation, behind(Part::Access, rest))
+            is_in(Part::Task, &stmt.what) && is_body(behind(Part::Access, rest))
         }
     }
-}
-
-/// Whether the statements are of form one: `array` lines, `show` lines, and at most one task, which fills cells of one `out` access.
-#[tactic(auto, unfolding(crate::specs::Forms::is_form_one))]
-pub fn is_form_one(stmts: &[Stmt]) -> bool
-    ensures { result ≡ is_form_one stmts.now }
-{
-    is_plain_task(behind(Part::Show, behind(Part::Array, stmts)))
 }
 
 /// Whether the statements are of form two: `array` lines, `show` lines, and at most one task.

@@ -23,9 +23,9 @@ fn told(rt: &impl Abort, alloc: Global, text: &[u8]) -> Result<String, Fail> {
 }
 
 #[test]
-fn texts_of_form_one_have_their_tree(rt: HostRuntime) -> Result<(), Fail> {
+fn texts_have_their_tree(rt: HostRuntime) -> Result<(), Fail> {
     let alloc = rt.alloc();
-    let rows: [(&[u8], &str); 6] = [
+    let rows: [(&[u8], &str); 8] = [
         (b"", ""),
         (b"\n", ""),
         (
@@ -43,6 +43,14 @@ fn texts_of_form_one_have_their_tree(rt: HostRuntime) -> Result<(), Fail> {
         (
             b"task\nout u[0..4]\n\ndo\nfill u[1 .. 2], 5\nend\n",
             "Stmt { line: 1, what: Task }\nStmt { line: 2, what: Touch { mode: Out, span: SpanText { array: Name { bytes: [117] }, from: 0, to: 4 } } }\nStmt { line: 4, what: Do }\nStmt { line: 5, what: Fill { span: SpanText { array: Name { bytes: [117] }, from: 1, to: 2 }, value: 5 } }\nStmt { line: 6, what: End }\n",
+        ),
+        (
+            b"task\ndo\nend\n",
+            "Stmt { line: 1, what: Task }\nStmt { line: 2, what: Do }\nStmt { line: 3, what: End }\n",
+        ),
+        (
+            b"task\nin v[0..1]\ninout u[0..2]\ndo\ncopy u[0..1], v[0..1]\nsend u[0..1], 1 - rank, 5\nrecv u[1..2], 1, 6\nend",
+            "Stmt { line: 1, what: Task }\nStmt { line: 2, what: Touch { mode: In, span: SpanText { array: Name { bytes: [118] }, from: 0, to: 1 } } }\nStmt { line: 3, what: Touch { mode: Inout, span: SpanText { array: Name { bytes: [117] }, from: 0, to: 2 } } }\nStmt { line: 4, what: Do }\nStmt { line: 5, what: Copy { dst: SpanText { array: Name { bytes: [117] }, from: 0, to: 1 }, src: SpanText { array: Name { bytes: [118] }, from: 0, to: 1 } } }\nStmt { line: 6, what: Posting { how: Send, span: SpanText { array: Name { bytes: [117] }, from: 0, to: 1 }, peer: AtMinusRank(1), tag: 5 } }\nStmt { line: 7, what: Posting { how: Recv, span: SpanText { array: Name { bytes: [117] }, from: 1, to: 2 }, peer: At(1), tag: 6 } }\nStmt { line: 8, what: End }\n",
         ),
     ];
     for (text, want) in rows {
@@ -72,11 +80,11 @@ fn other_texts_are_refused(rt: HostRuntime) -> Result<(), Fail> {
         b"show u\narray u, 4\n",
         b"task\n",
         b"end\n",
-        b"task\ndo\nend\n",
-        b"task\nin u[0..1]\ndo\nend\n",
-        b"task\nout u[0..1]\nout u[1..2]\ndo\nend\n",
-        b"task\nout u[0..1]\ndo\ncopy u[0..1], u[0..1]\nend\n",
-        b"task\nout u[0..1]\ndo\nsend u[0..1], 1 - rank, 5\nend\n",
+        b"task\ndo\nin u[0..1]\nend\n",
+        b"task\nfill u[0..1], 1\ndo\nend\n",
+        b"task\ndo\ndo\nend\n",
+        b"task\ndo\nsend u[0..1], rank, 5\nend\n",
+        b"task\ndo\nend\nshow u\n",
         b"task\nout u[0..1]\ndo\nend\ntask\nout u[0..1]\ndo\nend\n",
     ];
     for text in rows {

@@ -6,10 +6,10 @@ ghost use Rattle.task_parse.specs.declared.tree.Stmt.{Stmt};
 ghost use Rattle.task_parse.specs.declared.refusal.ParseRefusal.TheVariants as refusal;
 ghost use Rattle.task_parse.specs.Reading.{Gives};
 ghost use Rattle.task_parse.specs.Trees.{lines_of, said, what_of, with_line, statements, IsTree};
-ghost use Rattle.task_parse.specs.Forms.{is_form_one};
+ghost use Rattle.task_parse.specs.Forms.{is_form_two};
 
 use crate::bytes::{behind, front};
-use crate::form::is_form_one;
+use crate::form::is_form_two;
 use crate::refusal::{LineRefusal, ParseRefusal};
 use crate::statement::statement;
 use crate::token::{Token, tokens_of};
@@ -91,15 +91,15 @@ fn read_lines(alloc: Global, text: &[u8]) -> Result<Vec<Stmt>, LineRefusal>
     Ok(stmts)
 }
 
-/// The tree of a text of form one, which has no comment. `Form` comes exactly where the text is not of that form.
+/// The tree of a text of form two, which has no comment. `Form` comes exactly where the text is not of that form.
 pub fn parse(alloc: Global, text: &[u8]) -> Result<Tree, ParseRefusal>
     requires { length text.now + 1 < 2 ^ 32 }
     ensures found { IfOk result (λ tree. IsTree 1 (lines_of text.now) tree.items) }
-    ensures form { IfOk result (λ tree. is_form_one tree.items ≡ true) }
+    ensures form { IfOk result (λ tree. is_form_two tree.items ≡ true) }
     ensures no_comment { OnOk result (¬ Contains text.now 35) }
 
     // Every tree of that form is the one that is found, unless memory runs out.
-    ensures only { (stmts : List Stmt) → IsTree 1 (lines_of text.now) stmts → is_form_one stmts ≡ true → ¬ Contains text.now 35
+    ensures only { (stmts : List Stmt) → IsTree 1 (lines_of text.now) stmts → is_form_two stmts ≡ true → ¬ Contains text.now 35
         → MatchResult result (λ tree. tree.items ≡ stmts) (λ e. e ≡ refusal.Memory) }
 {
     if text.contains(&b'#') {
@@ -107,7 +107,7 @@ pub fn parse(alloc: Global, text: &[u8]) -> Result<Tree, ParseRefusal>
     }
     match read_lines(alloc, text) {
         Ok(stmts) => {
-            if is_form_one(stmts.as_slice()) {
+            if is_form_two(stmts.as_slice()) {
                 Ok(Tree::from_vec(stmts))
             } else {
                 Err(ParseRefusal::Form)

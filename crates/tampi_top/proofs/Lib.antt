@@ -1,0 +1,7 @@
+pub mod AcceptedLemmas
+pub mod DueLemmas
+pub mod EndLemmas
+pub mod NumberLemmas
+pub mod PieceLemmas
+pub mod ReportLemmas
+pub mod WordLemmas

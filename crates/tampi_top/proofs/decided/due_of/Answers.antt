@@ -1,0 +1,15 @@
+use Rattle.std.proofs.Common.{sym}
+use Rattle.tampi_top.specs.Due.{Call}
+use Rattle.tampi_top.proofs.DueLemmas.{decided_by}
+use Rattle.tampi_top.proofs.decided.due_of.Goals as goal
+
+pub returns-in-Whole : goal.returns-in-Whole
+returns-in-Whole g c =
+    let call : Call = record {
+      words = c.args.words.now;
+      given = g.S.ByteSource.rest c.args.input.now;
+      left = g.S.ByteSource.rest c.read_text.new.input;
+      before = g.S.ByteSource.faults c.args.input.now;
+      now = g.S.ByteSource.faults c.read_text.new.input } in
+    let read = c.in-Whole.ensures.taken in
+    decided_by call _ _ _ (sym c.in-Some.ensures.value) read.0 read.1 (rw c.as_slice.ensures.value at c.due_of_text.ensures)

@@ -1,0 +1,28 @@
+use Rattle.std.proofs.Common.{refl}
+use Rattle.tampi_top.specs.declared.ending.Ending.TheVariants as ending
+use Rattle.tampi_top.specs.Ending.{refusal_text}
+use Rattle.tampi_top.proofs.top.tampi.Goals as goal
+
+pub returns-in-Ran-clause-told : goal.returns-in-Ran-clause-told
+returns-in-Ran-clause-told g c = λ whole has_memory.
+    let written = c.told.ensures.written whole in
+    let run = c.in-Ran.ran in
+    (ending.Ran run.verdict, run.report.items, written.0, rw c.told.ensures.history c.in-Ran.ensures, written.1)
+
+pub returns-in-Ran-clause-broken : goal.returns-in-Ran-clause-broken
+returns-in-Ran-clause-broken g c = λ fails.
+    let broken = c.told.ensures.broken fails in
+    let run = c.in-Ran.ran in
+    (ending.Ran run.verdict, run.report.items, broken.0, rw c.told.ensures.history c.in-Ran.ensures, broken.1)
+
+pub returns-in-Refused-clause-told : goal.returns-in-Refused-clause-told
+returns-in-Refused-clause-told g c = λ whole has_memory.
+    let written = c.refused.ensures.written whole in
+    let why = c.in-Refused.refusal in
+    (ending.Refused why, refusal_text why, written.0, (c.in-Refused.ensures, refl, c.refused.ensures.entries, c.refused.ensures.statuses), written.1)
+
+pub returns-in-Refused-clause-broken : goal.returns-in-Refused-clause-broken
+returns-in-Refused-clause-broken g c = λ fails.
+    let broken = c.refused.ensures.broken fails in
+    let why = c.in-Refused.refusal in
+    (ending.Refused why, refusal_text why, broken.0, (c.in-Refused.ensures, refl, c.refused.ensures.entries, c.refused.ensures.statuses), broken.1)

@@ -1,0 +1,74 @@
+-- What a call owes: the history of the run, and the text that is written.
+use Rattle.std.specs.Prelude.{◌≡◌, ℕ, ◌≤◌, List, [], length, map, Option, Some, None, ◌⊎◌, String}
+use Rattle.std.specs.declared.alloc.Global.{Global}
+use Rattle.rt_base.specs.declared.data.Status.{Status}
+use Rattle.rt_base.specs.declared.data.Entry.{Entry}
+use Rattle.rt_base.specs.declared.data.Program.{Program}
+use Rattle.rt_base.specs.Outside.{Rose}
+use Rattle.rt_base.specs.State.{State, Task}
+use Rattle.core_book.specs.Legal.{final, IsLegal, IsQuiet, IsFinished, IsStuck}
+use Rattle.tampi_top.specs.declared.words.Command.{Command}
+use Rattle.tampi_top.specs.declared.ending.Refusal.{Refusal}
+use Rattle.tampi_top.specs.declared.ending.Refusal.TheVariants as refusal
+use Rattle.tampi_top.specs.declared.ending.Verdict.{Verdict}
+use Rattle.tampi_top.specs.declared.ending.Verdict.TheVariants as verdict
+use Rattle.tampi_top.specs.declared.ending.Ending.{Ending}
+use Rattle.tampi_top.specs.declared.ending.Ending.TheVariants as ending
+use Rattle.tampi_top.specs.Words.{command}
+use Rattle.tampi_top.specs.Input.{IsReadWhole, IsTooLong}
+use Rattle.tampi_top.specs.Report.{report}
+use Rattle.tampi_top.specs.Ending.{refusal_text}
+use Rattle.tampi_top.specs.Accepted.{IsProgramText, HasNoProgram}
+
+-- what a call was given: its words, what its source tells of the bytes before and after the call, and the source's counts of faults
+pub record Call : Type 0 where
+  pub words : List (String Global)
+  pub given : Option (List ℕ)
+  pub left : Option (List ℕ)
+  pub before : ℕ
+  pub now : ℕ
+
+-- the report of a program in this state at the end
+abbrev pub report_at : Program → State → List ℕ
+report_at program state = report program state.memory (map (λ (task : Task). task.phase) state.tasks)
+
+-- all tasks are released, or the run is stuck
+abbrev pub EndsAs : Verdict → Program → State → Type 0
+EndsAs verdict.Finished program state = IsFinished state
+EndsAs verdict.Stuck program state = IsStuck program state
+
+-- a run of this program with one worker: a legal history that ends where no task may move, as the verdict says, and its report
+pub record IsRunOf (program : Program) (outcome : Verdict) (entries : List Entry) (statuses : List Status) (text : List ℕ) : Type 0 where
+  pub legal : IsLegal program 1 entries statuses
+  pub quiet : IsQuiet program (final program entries)
+  pub ends : EndsAs outcome program (final program entries)
+  pub reported : text ≡ report_at program (final program entries)
+
+-- the words gave a command, the input was read to its end, and it is the text of a program of which this is a run
+pub record IsRun (call : Call) (outcome : Verdict) (entries : List Entry) (statuses : List Status) (text : List ℕ) : Type 0 where
+  pub asked : Command
+  pub is_asked : command call.words ≡ Some asked
+  pub input : List ℕ
+  pub whole : IsReadWhole call.given call.left input
+  pub short : length input ≤ 1048576
+  pub program : Program
+  pub accepted : IsProgramText asked input program
+  pub run : IsRunOf program outcome entries statuses text
+
+-- the input is longer than a text may be, or it was read to its end and says no program
+abbrev pub IsNotBuilt : Call → Command → Type 0
+IsNotBuilt call asked =
+    IsTooLong call.given call.left
+    ⊎ ((input : List ℕ) × IsReadWhole call.given call.left input × (length input ≤ 1048576) × HasNoProgram asked input)
+
+-- the cause of a refusal: the words give no command, and nothing was read; the source's count of faults rose; there is no program
+abbrev pub HasCause : Call → Refusal → Type 0
+HasCause call refusal.Words = (command call.words ≡ None) × (call.left ≡ call.given) × (call.now ≡ call.before)
+HasCause call refusal.ReadFault = (asked : Command) × (command call.words ≡ Some asked) × Rose call.before call.now
+HasCause call refusal.NotBuilt = (asked : Command) × (command call.words ≡ Some asked) × IsNotBuilt call asked
+
+-- what a call owes that ends so: a run with its report, or one line and no history
+abbrev pub IsDue : Call → Ending → List Entry → List Status → List ℕ → Type 0
+IsDue call (ending.Ran outcome) entries statuses text = IsRun call outcome entries statuses text
+IsDue call (ending.Refused why) entries statuses text =
+    HasCause call why × (text ≡ refusal_text why) × (entries ≡ []) × (statuses ≡ [])

@@ -1,0 +1,8 @@
+pub mod Words
+pub mod Settings
+pub mod Input
+pub mod Report
+pub mod Ending
+pub mod Accepted
+pub mod Due
+pub mod Decided

@@ -1,0 +1,62 @@
+//! How a call ends.
+ghost use Rattle.std.specs.Prelude.{◌≡◌};
+ghost use Rattle.tampi_top.specs.Ending.{verdict_status, refusal_status, refusal_text};
+
+/// Why a call runs nothing.
+#[derive(Clone, Copy, Debug, PartialEq, Eq)]
+pub enum Refusal {
+    /// The words give no command.
+    Words,
+    /// A read failed.
+    ReadFault,
+    /// There is no program of the form that is built.
+    NotBuilt,
+}
+
+/// How a run ended.
+#[derive(Clone, Copy, Debug, PartialEq, Eq)]
+pub enum Verdict {
+    /// All tasks are released.
+    Finished,
+    /// No task can move, and not all are released.
+    Stuck,
+}
+
+/// How a call ended.
+#[derive(Clone, Copy, Debug, PartialEq, Eq)]
+pub enum Ending {
+    Ran(Verdict),
+    Refused(Refusal),
+}
+
+/// The exit status of a run whose report was written.
+pub fn verdict_status(verdict: Verdict) -> u8
+    ensures { result ≡ verdict_status verdict }
+{
+    match verdict {
+        Verdict::Finished => 0,
+        Verdict::Stuck => 1,
+    }
+}
+
+/// The exit status of a refusal whose text was written.
+pub fn refusal_status(refusal: Refusal) -> u8
+    ensures { result ≡ refusal_status refusal }
+{
+    match refusal {
+        Refusal::Words => 2,
+        Refusal::ReadFault => 4,
+        Refusal::NotBuilt => 9,
+    }
+}
+
+/// The one line of a refusal.
+pub fn refusal_text(refusal: Refusal) -> &'static str
+    ensures { result.now ≡ refusal_text refusal }
+{
+    match refusal {
+        Refusal::Words => "words refused\n",
+        Refusal::ReadFault => "read fault\n",
+        Refusal::NotBuilt => "not built\n",
+    }
+}

@@ -1,0 +1,18 @@
+//! The top call: from the words and the bytes that come in to the bytes that go out.
+#![tactic(auto)]
+
+mod accepted;
+mod decided;
+mod ending;
+mod plain;
+mod reading;
+mod report;
+mod run;
+mod top;
+mod words;
+mod writing;
+
+pub use top::{Outcome, tampi};
+
+#[cfg(test)]
+mod tests;

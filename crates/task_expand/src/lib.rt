@@ -1,0 +1,20 @@
+//! The text language: from the tree of a text to the program that it says, for a number of ranks.
+#![tactic(auto)]
+
+mod arrays;
+mod cells;
+mod expansion;
+mod limits;
+mod lines;
+mod plan;
+mod ranks;
+mod refusal;
+mod regions;
+mod said;
+mod work;
+
+pub use expansion::expand;
+pub use refusal::ExpandRefusal;
+
+#[cfg(test)]
+mod tests;
