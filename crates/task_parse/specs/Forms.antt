@@ -1,10 +1,21 @@
 -- The form of text that is read (this project's).
 use Rattle.std.specs.Prelude.{Bool, true, false, ◌&&◌, List, [], ◌∷◌, if◌then◌else◌}
+use Rattle.rt_base.specs.declared.data.How.{How}
+use Rattle.rt_base.specs.declared.data.How.TheVariants as how
 use Rattle.task_parse.specs.declared.form.Part.{Part}
 use Rattle.task_parse.specs.declared.form.Part.TheVariants as part
 use Rattle.task_parse.specs.declared.tree.What.{What}
 use Rattle.task_parse.specs.declared.tree.What.TheVariants as what
 use Rattle.task_parse.specs.declared.tree.Stmt.{Stmt}
+
+-- the call is one of the form: `send` or `recv`
+abbrev pub is_built : How → Bool
+is_built how.Send = true
+is_built how.Ssend = false
+is_built how.Recv = true
+is_built how.Isend = false
+is_built how.Issend = false
+is_built how.Irecv = false
 
 -- the statement may stand in this part of a text
 abbrev pub is_in : Part → What → Bool
@@ -15,7 +26,7 @@ is_in part.Access (what.Touch _ _) = true
 is_in part.Do what.Do = true
 is_in part.Operation (what.Fill _ _) = true
 is_in part.Operation (what.Copy _ _) = true
-is_in part.Operation (what.Posting _ _ _ _) = true
+is_in part.Operation (what.Posting kind _ _ _) = is_built kind
 is_in part.End what.End = true
 is_in _ _ = false
 

@@ -2,10 +2,12 @@
 
 ghost use Rattle.std.specs.Prelude.{◌≡◌, ◌≤◌, length};
 ghost use Rattle.std.specs.List.{prefix_len};
-ghost use Rattle.task_parse.specs.Forms.{is_in, behind, is_end, is_body, is_one_task, is_form_two};
+ghost use Rattle.task_parse.specs.declared.form.Part.TheVariants as part;
+ghost use Rattle.task_parse.specs.Forms.{is_built, is_in, behind, is_end, is_body, is_one_task, is_form_two};
 
 use crate::bytes;
 use crate::tree::{Stmt, What};
+use rt_base::How;
 
 /// A part of a text of the form that is read.
 #[derive(Clone, Copy)]
@@ -31,11 +33,39 @@ fn is_in(part: Part, what: &What) -> bool
         Part::Task => matches!(what, What::Task),
         Part::Access => matches!(what, What::Touch { .. }),
         Part::Do => matches!(what, What::Do),
-        Part::Operation => matches!(
-            what,
-            What::Fill { .. } | What::Copy { .. } | What::Posting { .. }
-        ),
+        Part::Operation => is_operation(what),
         Part::End => matches!(what, What::End),
+    }
+}
+
+// Whether the statement is an operation of the form: `fill`, `copy`, `send` or `recv`.
+fn is_operation(what: &What) -> bool
+    ensures { result ≡ is_in part.Operation what.now }
+{
+    match what {
+        What::Array { .. } => false,
+        What::Show { .. } => false,
+        What::Task => false,
+        What::Touch { .. } => false,
+        What::Do => false,
+        What::Fill { .. } => true,
+        What::Copy { .. } => true,
+        What::Posting { how, .. } => is_built(*how),
+        What::End => false,
+    }
+}
+
+// Whether the call is one of the form: `send` or `recv`.
+fn is_built(how: How) -> bool
+    ensures { result ≡ is_built how }
+{
+    match how {
+        How::Send => true,
+        How::Ssend => false,
+        How::Recv => true,
+        How::Isend => false,
+        How::Issend => false,
+        How::Irecv => false,
     }
 }
 
