@@ -46,11 +46,11 @@ stop_is_started def k = stop_started k (drop k def.body.items)
 rest_counted : (ops : List Op) (k : ℕ) → k ≤ length ops → k + length (drop k ops) ≡ length ops
 rest_counted ops k within = omega (arith, length-drop k ops)
 
-fewer_at_start : (n left : ℕ) → left ≤ 2 * (n - 0) + 2 → left + 1 ≤ 2 * n + 3
+pub fewer_at_start : (n left : ℕ) → left ≤ 2 * (n - 0) + 2 → left + 1 ≤ 2 * n + 3
 fewer_at_start n left few = omega arith
 
 -- the moves left at a stop
-left_by_stop : (def : TaskDef) (k : ℕ) → k ≤ length def.body.items → moves_left (length def.body.items) (stop def k) ≤ 2 * (length def.body.items - k) + 2
+pub left_by_stop : (def : TaskDef) (k : ℕ) → k ≤ length def.body.items → moves_left (length def.body.items) (stop def k) ≤ 2 * (length def.body.items - k) + 2
 unfolding stop
 left_by_stop def k within = left_at_stop (length def.body.items) k (drop k def.body.items) (rest_counted def.body.items k within)
 
@@ -137,7 +137,7 @@ same_parts u t n m same = grind (arith, nat_tests)
 below_count : (n m count : ℕ) → n ≡ m → count ≡ m + 1 → n < count
 below_count n m count same counted = omega arith
 
-fewer_after_leave : (n k left : ℕ) → k < n → left ≤ 2 * (n - (k + 1)) + 2 → left + 1 ≤ 2 * (n - k) + 1
+pub fewer_after_leave : (n k left : ℕ) → k < n → left ≤ 2 * (n - (k + 1)) + 2 → left + 1 ≤ 2 * (n - k) + 1
 fewer_after_leave n k left within few = omega arith
 
 statuses_more : (old more : List Status) → length more ≤ 1 → length (old ++ more) ≤ length old + 1

@@ -11,3 +11,7 @@ pub mod BookMoves
 pub mod Questions
 pub mod CallLemmas
 pub mod LeaveLemmas
+pub mod Others
+pub mod Lines
+pub mod Before
+pub mod Picks

@@ -2,9 +2,11 @@
 #![tactic(auto)]
 
 mod book;
+mod plain;
 mod posting;
 mod room;
 mod tasks;
 mod waits;
 
 pub use book::{Book, BookEnd};
+pub use plain::run_plainly;

@@ -6,3 +6,4 @@ pub mod Ending
 pub mod Accepted
 pub mod Due
 pub mod Decided
+pub mod Laws

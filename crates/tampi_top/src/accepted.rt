@@ -5,6 +5,7 @@ ghost use Rattle.task_parse.specs.Forms.{is_form_two};
 ghost use Rattle.task_expand.specs.Lines.{IsProgramOf};
 ghost use Rattle.task_expand.specs.Lawful.{IsLawful};
 ghost use Rattle.rt_base.specs.WellFormed.{WellFormed};
+ghost use Rattle.core_book.specs.Plain.{IsPlain};
 ghost use Rattle.tampi_top.specs.Accepted.{IsProgramText, HasNoProgram};
 ghost use Rattle.tampi_top.specs.declared.accepted.Unaccepted.TheVariants as unaccepted;
 ghost use Rattle.tampi_top.specs.Settings.{IsInRange};
@@ -30,6 +31,7 @@ fn unrolled(alloc: Global, tree: &Tree, asked: Command) -> Result<Program, Unacc
     ensures program { IfOk result (λ program. IsProgramOf tree.now.items asked.ranks asked.eager program) }
     ensures lawful { IfOk result (λ program. IsLawful tree.now.items asked.ranks program) }
     ensures well_formed { IfOk result (λ program. WellFormed program) }
+    ensures plain { IfOk result (λ program. IsPlain program) }
     ensures none { IfErr result (λ why. why ≡ unaccepted.NotBuilt
         → (program : Program) → IsProgramOf tree.now.items asked.ranks asked.eager program → IsLawful tree.now.items asked.ranks program → ⊥) }
 {
@@ -46,6 +48,7 @@ pub fn program_of(alloc: Global, text: &[u8], asked: Command) -> Result<Program,
     requires range { IsInRange asked }
     ensures accepted { IfOk result (λ program. IsProgramText asked text.now program) }
     ensures well_formed { IfOk result (λ program. WellFormed program) }
+    ensures plain { IfOk result (λ program. IsPlain program) }
     ensures none { IfErr result (λ why. why ≡ unaccepted.NotBuilt → HasNoProgram asked text.now) }
 {
     match parse(alloc, text) {

@@ -4,7 +4,7 @@
 mod accepted;
 mod decided;
 mod ending;
-mod plain;
+pub mod laws;
 mod reading;
 mod report;
 mod run;

@@ -1,12 +1,13 @@
 //! A run of a program, and its report.
 ghost use Rattle.std.specs.Prelude.{◌≡◌, IfOk};
 ghost use Rattle.rt_base.specs.WellFormed.{WellFormed};
+ghost use Rattle.core_book.specs.Plain.{IsPlain};
 ghost use Rattle.tampi_top.specs.Ending.{verdict_of};
 ghost use Rattle.tampi_top.specs.Due.{IsRunOf};
 
 use crate::ending::Verdict;
-use crate::plain::run_plainly;
 use crate::report::{all_released, report_of};
+use core_book::run_plainly;
 use rt_base::{History, Phase, Program};
 use std::alloc::{AllocError, Global};
 
@@ -31,7 +32,8 @@ fn verdict_of(phases: &[Phase]) -> Verdict
 
 /// Runs the program to its end, and makes the report.
 pub fn run_of(alloc: Global, program: &Program) -> Result<Run, AllocError>
-    requires { WellFormed program.now }
+    requires well_formed { WellFormed program.now }
+    requires plain { IsPlain program.now }
     ensures { IfOk result (λ run. IsRunOf program.now run.verdict run.history.entries.items run.history.statuses.items run.report.items) }
 {
     let end = run_plainly(alloc, program)?;

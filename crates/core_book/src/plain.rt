@@ -1,0 +1,145 @@
+//! The plain run of a program: one thread, no workers, one move after another.
+
+ghost use Rattle.std.specs.Prelude.{◌≡◌, ◌≢◌, ◌<◌, length, slice_get, IfOk, IfSome, IfNone, ℕ};
+ghost use Rattle.rt_base.specs.declared.data.Phase.TheVariants as phase;
+ghost use Rattle.rt_base.specs.WellFormed.{WellFormed};
+ghost use Rattle.rt_base.specs.MayMove.{MayMove};
+ghost use Rattle.core_book.specs.Legal.{final, phases_of, IsLegal, IsQuiet};
+ghost use Rattle.core_book.specs.Ledger.{MakesMove, IsReady};
+ghost use Rattle.core_book.specs.Plain.{IsPlain};
+ghost use Rattle.core_book.specs.Turns.{IsInLine, AreInLine, AreFresh, EndsTurn};
+
+use crate::book::{Book, BookEnd};
+use rt_base::{Program, TaskNo};
+use std::alloc::{AllocError, Global};
+use task_local::{At, TaskRec};
+
+/// Runs the program on one thread over a book, until no task may move. Takes memory for all records first, and then for the cells of each send.
+/// Its time grows with the number of moves times the number of tasks.
+pub fn run_plainly(alloc: Global, prog: &Program) -> Result<BookEnd, AllocError>
+    requires well_formed { WellFormed prog.now }
+    requires plain { IsPlain prog.now }
+    ensures legal { IfOk result (λ end. IsLegal prog.now 1 end.history.entries.items end.history.statuses.items) }
+    ensures quiet { IfOk result (λ end. IsQuiet prog.now (final prog.now end.history.entries.items)) }
+    ensures cells { IfOk result (λ end. end.cells.items ≡ (final prog.now end.history.entries.items).memory) }
+    ensures phases { IfOk result (λ end. end.phases.items ≡ phases_of (final prog.now end.history.entries.items).tasks) }
+{
+    let mut book = Book::build(alloc, prog, 1)?;
+    let mut recs = fresh_records(alloc, prog)?;
+    while turn(alloc, prog, &mut book, &mut recs)? {}
+    Ok(book.into_end())
+}
+
+// The records of all tasks, none of them started.
+fn fresh_records(alloc: Global, prog: &Program) -> Result<Vec<TaskRec>, AllocError>
+    requires { WellFormed prog.now }
+    ensures count { IfOk result (λ recs. length recs.items ≡ length prog.now.tasks.items) }
+    ensures fresh { IfOk result (λ recs. AreFresh prog.now recs.items) }
+{
+    let mut recs = Vec::with_capacity(alloc, prog.tasks.len())?;
+    for t in 0..prog.tasks.len() {
+        recs.push(TaskRec::make(alloc, prog, TaskNo(t as u32))?)?;
+    }
+    Ok(recs)
+}
+
+// Makes one move, if a task may move. Answers whether one did.
+fn turn(
+    alloc: Global,
+    prog: &Program,
+    book: &mut Book,
+    recs: &mut [TaskRec],
+) -> Result<bool, AllocError>
+    requires well_formed { WellFormed prog.now }
+    requires plain { IsPlain prog.now }
+    requires same { prog.now ≡ book.old.program }
+    requires in_line { AreInLine book.old recs.old }
+    ensures { IfOk result (λ moved. EndsTurn book.old book.new recs.new moved) }
+{
+    match book.ready() {
+        Some(task) => {
+            book.start(prog, &mut recs[task.0 as usize]);
+            Ok(true)
+        }
+        None => go_on(alloc, prog, book, recs),
+    }
+}
+
+// Makes a move of a task that was started, if one may move. Answers whether one did.
+fn go_on(
+    alloc: Global,
+    prog: &Program,
+    book: &mut Book,
+    recs: &mut [TaskRec],
+) -> Result<bool, AllocError>
+    requires well_formed { WellFormed prog.now }
+    requires plain { IsPlain prog.now }
+    requires same { prog.now ≡ book.old.program }
+    requires in_line { AreInLine book.old recs.old }
+    requires none_ready { (t : ℕ) → ¬ IsReady book.old t }
+    ensures { IfOk result (λ moved. EndsTurn book.old book.new recs.new moved) }
+{
+    match next_task(prog, book) {
+        Some(task) => {
+            move_one(alloc, prog, book, &mut recs[task.0 as usize])?;
+            Ok(true)
+        }
+        None => Ok(false),
+    }
+}
+
+// The first task that may move.
+fn next_task(prog: &Program, book: &Book) -> Option<TaskNo>
+    requires well_formed { WellFormed prog.now }
+    requires same { prog.now ≡ book.now.program }
+    ensures some { IfSome result (λ task. MayMove prog.now (final prog.now book.now.history) task.0) }
+    ensures none { IfNone result (IsQuiet prog.now (final prog.now book.now.history)) }
+{
+    for t in 0..prog.tasks.len() {
+        let task = TaskNo(t as u32);
+        if book.can_move(prog, task) {
+            return Some(task);
+        }
+    }
+    None
+}
+
+// Makes the next move of a task that was started, after its local operations.
+fn move_one(
+    alloc: Global,
+    prog: &Program,
+    book: &mut Book,
+    rec: &mut TaskRec,
+) -> Result<(), AllocError>
+    requires well_formed { WellFormed prog.now }
+    requires plain { IsPlain prog.now }
+    requires same { prog.now ≡ book.old.program }
+    requires in_line { IsInLine prog.now (final prog.now book.old.history) book.old.handed rec.old.task rec.old }
+    requires started { rec.old.phase ≢ phase.Waiting }
+    requires enabled { MayMove prog.now (final prog.now book.old.history) rec.old.task }
+    ensures { IfOk result (λ done. MakesMove book.old book.new rec.old rec.new) }
+{
+    rec.run_local(prog);
+    match rec.at(prog) {
+        At::Local => unreachable!(),
+        At::Fresh => unreachable!(),
+        At::Call(_) => {
+            let cells = rec.pack(alloc, prog)?;
+            book.call(prog, rec, cells);
+            Ok(())
+        }
+        At::In(_) => {
+            book.leave(prog, rec);
+            Ok(())
+        }
+        At::Ended => {
+            book.ret(prog, rec);
+            Ok(())
+        }
+        At::Returned => {
+            book.release(prog, rec);
+            Ok(())
+        }
+        At::Released => unreachable!(),
+    }
+}
