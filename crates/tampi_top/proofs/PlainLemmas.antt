@@ -31,7 +31,7 @@ use Rattle.task_expand.specs.Lines.{tag_of, filling, copying, posting, work_by, 
 use Rattle.core_book.specs.Plain.{IsPlainOperation, IsPlain}
 
 -- a statement that posts, posts a call of the form
-IsBuilt : What → Type 0
+abbrev IsBuilt : What → Type 0
 IsBuilt (what.Array name len) = ⊤
 IsBuilt (what.Show name) = ⊤
 IsBuilt what.Task = ⊤
@@ -42,7 +42,7 @@ IsBuilt (what.Copy dst src) = ⊤
 IsBuilt (what.Posting kind span peer tag) = is_built kind ≡ true
 IsBuilt what.End = ⊤
 
-AllBuilt : List Stmt → Type 0
+abbrev AllBuilt : List Stmt → Type 0
 AllBuilt [] = ⊤
 AllBuilt (stmt ∷ stmts) = IsBuilt stmt.what × AllBuilt stmts
 
@@ -99,21 +99,21 @@ unfolding is_form_two
 form_built stmts h = built_behind part.Array stmts (built_behind part.Show (behind part.Array stmts) (task_built (behind part.Show (behind part.Array stmts)) h))
 
 -- an operation that posts, posts a call of the form
-WorkBuilt : Work → Type 0
+abbrev WorkBuilt : Work → Type 0
 WorkBuilt (work.Fill dst value) = ⊤
 WorkBuilt (work.Copy dst src) = ⊤
 WorkBuilt (work.Post kind span peer tag) = is_built kind ≡ true
 
-AllWork : List Work → Type 0
+abbrev AllWork : List Work → Type 0
 AllWork [] = ⊤
 AllWork (one ∷ works) = WorkBuilt one × AllWork works
 
 -- what is found is so
-OfFound : {T : Type 0} → (T → Type 0) → Option T → Type 0
+abbrev OfFound : {T : Type 0} → (T → Type 0) → Option T → Type 0
 OfFound P None = ⊤
 OfFound P (Some x) = P x
 
-OfSaid : {T : Type 0} → (T → Type 0) → Said T → Type 0
+abbrev OfSaid : {T : Type 0} → (T → Type 0) → Said T → Type 0
 OfSaid P said.Other = ⊤
 OfSaid P said.Wrong = ⊤
 OfSaid P (said.Is x) = P x
@@ -160,7 +160,7 @@ all_work names lens (stmt ∷ stmts) built =
     more_work (work_by names lens stmt.what) (works_of names lens stmts) (work_built names lens stmt.what built.0) (all_work names lens stmts built.1)
 
 -- the operations of a rank
-AllPlain : List Op → Type 0
+abbrev AllPlain : List Op → Type 0
 AllPlain [] = ⊤
 AllPlain (x ∷ ops) = IsPlainOperation x × AllPlain ops
 
