@@ -1,5 +1,5 @@
 -- A book keeps the state after its history: one lemma for every move of a task.
-use Rattle.std.proofs.Common.{◌≡◌, ◌≢◌, ℕ, zero, suc, ◌+◌, ◌<◌, ◌≤◌, Bool, true, false, ◌⊎◌, List, [], ◌∷◌, ◌++◌, length, map, slice_get, slice_set, Option, Some, None, refl, sym, ap, ◌∙◌, subst, inl, inr, arith, rules}
+use Rattle.std.proofs.Common.{◌≡◌, ◌≢◌, ℕ, zero, suc, ◌+◌, ◌<◌, ◌≤◌, Bool, true, ◌⊎◌, List, [], ◌∷◌, ◌++◌, length, map, slice_get, slice_set, Some, refl, sym, ap, ◌∙◌, subst, inl, inr, arith}
 use Rattle.std.specs.Prelude.{option_map, ℤ}
 use Rattle.std.proofs.Math.ListN.{length-set}
 use Rattle.std.proofs.lemmas.List.{map-set, length-append}
@@ -16,11 +16,11 @@ use Rattle.rt_base.specs.Operations.{request}
 use Rattle.rt_base.specs.Precedes.{LetGo}
 use Rattle.rt_base.specs.Exchange.{Exchange}
 use Rattle.rt_base.specs.Completion.{is_posted}
-use Rattle.rt_base.specs.State.{State, Task, let_go_at, is_released}
+use Rattle.rt_base.specs.State.{State, Task, is_released}
 use Rattle.rt_base.specs.MayMove.{MayMove}
 use Rattle.core_book.specs.Machine.{move}
 use Rattle.core_book.specs.Legal.{IsLegal, final, caller}
-use Rattle.core_book.specs.Kept.{moves_left, all_left, posted_by_phase, IsOrderly, IsKept}
+use Rattle.core_book.specs.Kept.{moves_left, posted_by_phase, IsOrderly, IsKept}
 use Rattle.core_book.proofs.Runs.{final-push, legal-push}
 use Rattle.core_book.proofs.Lists.{slice_get-set_same, slice_get-set_other, slice_get-map}
 use Rattle.core_book.proofs.Moves.{all_left-set}
@@ -59,8 +59,9 @@ some_same e = cc
 task_after : (tasks : List Task) (t u : ℕ) (was now task : Task) → slice_get tasks t ≡ Some was → slice_get (slice_set tasks t now) u ≡ Some task
     → ((u ≡ t) × (task ≡ now)) ⊎ ((u ≢ t) × (slice_get tasks u ≡ Some task))
 task_after tasks t u was now task here there = elim (either_place u t) [
-    inl same ↦ inl (same, some_same (sym there ∙ ap (slice_get (slice_set tasks t now)) same ∙ slice_get-set_same tasks t now (slice_get_within tasks t was here)))
-  | inr other ↦ inr (other, sym (slice_get-set_other tasks t u now other) ∙ there) ]
+  | inl same ↦ inl (same, some_same (sym there ∙ ap (slice_get (slice_set tasks t now)) same ∙ slice_get-set_same tasks t now (slice_get_within tasks t was here)))
+  | inr other ↦ inr (other, sym (slice_get-set_other tasks t u now other) ∙ there)
+]
 
 -- what the moving task has posted
 same_task : (p : Program) (s : State) (t u n : ℕ) (def d : TaskDef) (was now task : Task) (new : State) (e : Entry) → IsOrderly p s → Changes p s t def was now new e
@@ -70,8 +71,9 @@ same_task : (p : Program) (s : State) (t u n : ℕ) (def d : TaskDef) (was now t
 same_task p s t u n def d was now task new e kept c is_def same mine was_posted =
     let one_def : d ≡ def = some_same (sym is_def ∙ ap (slice_get p.tasks.items) same ∙ c.is_def) in
     rw (one_def, mine) (elim was_posted [
-        inl before ↦ below_later n _ _ (kept.posted u n def was (is_def ∙ ap Some one_def) (ap (slice_get s.tasks) same ∙ c.is_task) before) c.later
-      | inr by_t ↦ by_t.1 ])
+      | inl before ↦ below_later n _ _ (kept.posted u n def was (is_def ∙ ap Some one_def) (ap (slice_get s.tasks) same ∙ c.is_task) before) c.later
+      | inr by_t ↦ by_t.1
+    ])
 
 -- what is posted after a move is what the tasks have posted
 posted_after : (p : Program) (s : State) (t u n : ℕ) (def d : TaskDef) (was now task : Task) (new : State) (e : Entry) → IsOrderly p s → Changes p s t def was now new e
@@ -80,20 +82,24 @@ posted_after : (p : Program) (s : State) (t u n : ℕ) (def d : TaskDef) (was no
     → (is_posted s.exchange (request u n) ≡ true) ⊎ ((u ≡ t) × (n < posted_by_phase def now.phase))
     → n < posted_by_phase d task.phase
 posted_after p s t u n def d was now task new e kept c is_def who was_posted = elim who [
-    inl mine ↦ same_task p s t u n def d was now task new e kept c is_def mine.0 mine.1 was_posted
+  | inl mine ↦ same_task p s t u n def d was now task new e kept c is_def mine.0 mine.1 was_posted
   | inr other ↦ elim was_posted [
-        inl before ↦ kept.posted u n d task is_def other.1 before
-      | inr by_t ↦ absurd (other.0 by_t.0) ] ]
+    | inl before ↦ kept.posted u n d task is_def other.1 before
+    | inr by_t ↦ absurd (other.0 by_t.0)
+  ]
+]
 
 orderly_after : (p : Program) (s : State) (t : ℕ) (def : TaskDef) (was now : Task) (new : State) (e : Entry) → IsOrderly p s → Changes p s t def was now new e → IsOrderly p new
 orderly_after p s t def was now new e kept c = record {
   counted = ap (λ (xs : List Task). length xs) c.tasks ∙ length-set s.tasks t now ∙ kept.counted;
   cells = c.cells;
   unbound = λ u task here. elim (task_after s.tasks t u was now task c.is_task (sym (ap (λ (xs : List Task). slice_get xs u) c.tasks) ∙ here)) [
-      inl mine ↦ (ap (λ (x : Task). x.named) mine.1 ∙ c.unbound.0, ap (λ (x : Task). x.bound) mine.1 ∙ c.unbound.1)
-    | inr other ↦ kept.unbound u task other.1 ];
+    | inl mine ↦ (ap (λ (x : Task). x.named) mine.1 ∙ c.unbound.0, ap (λ (x : Task). x.bound) mine.1 ∙ c.unbound.1)
+    | inr other ↦ kept.unbound u task other.1
+  ];
   posted = λ u n d task is_def here posted. posted_after p s t u n def d was now task new e kept c is_def
-      (task_after s.tasks t u was now task c.is_task (sym (ap (λ (xs : List Task). slice_get xs u) c.tasks) ∙ here)) (c.posted u n posted) }
+      (task_after s.tasks t u was now task c.is_task (sym (ap (λ (xs : List Task). slice_get xs u) c.tasks) ∙ here)) (c.posted u n posted);
+}
 
 -- the phases after a move
 pub phases_after : (s new : State) (t : ℕ) (now : Task) → new.tasks ≡ slice_set s.tasks t now
@@ -105,8 +111,9 @@ phases_after s new t now tasks =
 begun_after : (phases : List Phase) (handed : List Bool) (t u : ℕ) (now at : Phase) → ((v : ℕ) (q : Phase) → slice_get phases v ≡ Some q → q ≢ phase.Waiting → slice_get handed v ≡ Some true)
     → slice_get handed t ≡ Some true → slice_get (slice_set phases t now) u ≡ Some at → at ≢ phase.Waiting → slice_get handed u ≡ Some true
 begun_after phases handed t u now at before mine here started = elim (either_place u t) [
-    inl same ↦ ap (slice_get handed) same ∙ mine
-  | inr other ↦ before u at (sym (slice_get-set_other phases t u now other) ∙ here) started ]
+  | inl same ↦ ap (slice_get handed) same ∙ mine
+  | inr other ↦ before u at (sym (slice_get-set_other phases t u now other) ∙ here) started
+]
 
 one_fewer : (es : List Entry) (e : Entry) (new old places : ℕ) → new + 1 ≤ old → length es + old ≤ places → length (es ++ e ∷ []) + new ≤ places
 one_fewer es e new old places less room = omega (arith, length-append es (e ∷ []))
@@ -140,7 +147,7 @@ kept_after p workers es old told memory phases exchange notices gone gone' hande
     let exists : t < length p.tasks.items = slice_get_within p.tasks.items t def c.is_def in
     let end : final p (es ++ e ∷ []) ≡ new = final-push p es t new e exists c.who c.moved in
     let is_phase : slice_get phases t ≡ Some was.phase =
-        ap (λ (xs : List Phase). slice_get xs t) kept.phases_are ∙ slice_get-map (λ (x : Task). x.phase) (final p es).tasks t ∙ ap (option_map (λ (x : Task). x.phase)) c.is_task in
+    ap (λ (xs : List Phase). slice_get xs t) kept.phases_are ∙ slice_get-map (λ (x : Task). x.phase) (final p es).tasks t ∙ ap (option_map (λ (x : Task). x.phase)) c.is_task in
     let left = all_left-set p.tasks.items phases t def was.phase now.phase c.is_def is_phase c.fewer in
     record {
       well = kept.well;
@@ -155,4 +162,5 @@ kept_after p workers es old told memory phases exchange notices gone gone' hande
       few_statuses = few_more (length old) (length told) _ _ _ (told_more p es old told new workers kept.legal c.told statuses) left kept.few_statuses;
       entry_room = one_fewer es e _ _ _ left kept.entry_room;
       status_room = few_more (length old) (length told) _ _ _ (told_more p es old told new workers kept.legal c.told statuses) left kept.status_room;
-      notice_room = few_more (length notices) (length new.notices) _ _ _ (noticed_more p es new notices kept.notices_are c.noticed) left kept.notice_room }
+      notice_room = few_more (length notices) (length new.notices) _ _ _ (noticed_more p es new notices kept.notices_are c.noticed) left kept.notice_room;
+    }

@@ -9,10 +9,9 @@ use Rattle.rt_base.specs.declared.data.TaskDef.{TaskDef}
 use Rattle.rt_base.specs.declared.data.Program.{Program}
 use Rattle.rt_base.specs.State.{State, Task}
 use Rattle.rt_base.specs.MayMove.{MayMove}
-use Rattle.task_local.specs.declared.standing.At.{At}
 use Rattle.task_local.specs.declared.standing.At.TheVariants as at
 use Rattle.task_local.specs.StandsFor.{Record, StandsFor, StandsAs}
-use Rattle.task_local.specs.Standing.{def, at_phase, at_operation, moved_on, IsAtCall}
+use Rattle.task_local.specs.Standing.{def, at_phase, at_operation, moved_on}
 use Rattle.task_local.proofs.Stands.{stands_after_moved_on}
 use Rattle.core_book.specs.Ledger.{IsPosting, IsBlocking, IsAtPosting, IsInPosting}
 use Rattle.core_book.specs.Plain.{IsPlain, IsPlainOperation}

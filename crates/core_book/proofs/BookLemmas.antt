@@ -1,8 +1,8 @@
 -- What a book's fields keep, in terms of its fields after a move.
-use Rattle.std.proofs.Common.{◌≡◌, ◌≢◌, ℕ, zero, suc, ◌+◌, ◌-◌, ◌*◌, ◌^◌, ◌<◌, ◌≤◌, Bool, true, false, List, [], ◌∷◌, ◌++◌, length, map, slice_get, slice_set, Some, None, Option, refl, sym, ap, ◌∙◌, subst, cond, ltb, arith, rules}
+use Rattle.std.proofs.Common.{◌≡◌, ℕ, zero, suc, ◌+◌, ◌*◌, ◌^◌, ◌<◌, ◌≤◌, Bool, true, false, List, [], ◌∷◌, ◌++◌, length, map, slice_get, slice_set, Some, None, Option, refl, sym, ap, ◌∙◌, subst, cond, ltb, arith}
 use Rattle.std.specs.Prelude.{ℤ, option_map, sum_by, replicate, unwrap_or, drop, pos, IfSome, IfNone}
 use Rattle.std.proofs.lemmas.List.Sums.{sum_by-cons}
-use Rattle.std.proofs.lemmas.Option.{slice_get_within, slice_get-get_or}
+use Rattle.std.proofs.lemmas.Option.{slice_get_within}
 use Rattle.rt_base.specs.declared.data.TaskNo.{TaskNo}
 use Rattle.rt_base.specs.declared.data.ReqNo.{ReqNo}
 use Rattle.rt_base.specs.declared.data.Phase.{Phase}
@@ -16,25 +16,25 @@ use Rattle.rt_base.specs.Layout.{memory_len}
 use Rattle.rt_base.specs.Operations.{task_no}
 use Rattle.rt_base.specs.Precedes.{LetGo, MayStart}
 use Rattle.rt_base.specs.Exchange.{Exchange, silent}
-use Rattle.rt_base.specs.State.{State, Task, is_released, let_go, let_go_at}
+use Rattle.rt_base.specs.State.{State, Task, is_released, let_go}
 use Rattle.rt_base.specs.MayMove.{MayMove}
 use Rattle.rt_base.specs.WellFormed.{WellFormed}
 use Rattle.match_engine.specs.Switch.{Switch}
 use Rattle.region_deps.specs.Readiness.{Readiness, IsWhole, IsStartable, untouched}
-use Rattle.task_local.specs.Regions.{loaded, saved}
+use Rattle.task_local.specs.Regions.{loaded}
 use Rattle.rt_base.specs.declared.data.Op.{Op}
 use Rattle.task_local.specs.Local.{advanced, stop, run_front}
 use Rattle.task_local.specs.Standing.{phase_before, def_of, no_task}
 use Rattle.task_local.specs.StandsFor.{Record, StandsFor, StandsAs}
-use Rattle.core_book.specs.Machine.{Moved, move, start_move, return_move}
-use Rattle.core_book.specs.Legal.{final, IsLegal}
+use Rattle.core_book.specs.Machine.{Moved, move, start_move}
+use Rattle.core_book.specs.Legal.{final}
 use Rattle.core_book.specs.Ledger.{Ledger, MakesMove, IsReady}
 use Rattle.core_book.specs.Kept.{IsKept, IsBook, all_left, most_moves, moves_left}
 use Rattle.core_book.proofs.Lists.{slice_get-set_same, slice_set_same, slice_get-map}
 use Rattle.core_book.proofs.Opening.{kept_at_opening}
 use Rattle.core_book.proofs.After.{Changes, kept_after}
 use Rattle.core_book.proofs.Runs.{final-push}
-use Rattle.core_book.proofs.Changes.{start_changes, return_changes, release_changes}
+use Rattle.core_book.proofs.Changes.{start_changes}
 use Rattle.core_book.proofs.Stops.{drop_end, stop_ended, stop_begins, stop_held}
 use Rattle.std.proofs.lemmas.Bool.{ltb-false}
 
@@ -48,9 +48,20 @@ roomier n places places' room more = omega arith
 kept_roomier : (p : Program) (w : ℕ) (es : List Entry) (ss : List Status) (m : List ℤ) (phs : List Phase) (x : Exchange) (ns : List ReqNo) (g : LetGo) (h : List Bool) (a b c a' b' c' : ℕ)
     → a ≤ a' → b ≤ b' → c ≤ c' → IsKept p w es ss m phs x ns g h a b c → IsKept p w es ss m phs x ns g h a' b' c'
 kept_roomier p w es ss m phs x ns g h a b c a' b' c' more_a more_b more_c k = record {
-  well = k.well; legal = k.legal; memory_is = k.memory_is; phases_are = k.phases_are; exchange_is = k.exchange_is; notices_are = k.notices_are;
-  gone_is = k.gone_is; orderly = k.orderly; begun = k.begun; few_statuses = k.few_statuses;
-  entry_room = roomier _ a a' k.entry_room more_a; status_room = roomier _ b b' k.status_room more_b; notice_room = roomier _ c c' k.notice_room more_c }
+  well = k.well;
+  legal = k.legal;
+  memory_is = k.memory_is;
+  phases_are = k.phases_are;
+  exchange_is = k.exchange_is;
+  notices_are = k.notices_are;
+  gone_is = k.gone_is;
+  orderly = k.orderly;
+  begun = k.begun;
+  few_statuses = k.few_statuses;
+  entry_room = roomier _ a a' k.entry_room more_a;
+  status_room = roomier _ b b' k.status_room more_b;
+  notice_room = roomier _ c c' k.notice_room more_c;
+}
 
 -- the same fields by other names
 kept_as : (p : Program) (w : ℕ) (es es' : List Entry) (ss ss' : List Status) (m m' : List ℤ) (phs phs' : List Phase) (x x' : Exchange) (ns ns' : List ReqNo) (g : LetGo) (h h' : List Bool) (a b c : ℕ)
@@ -89,12 +100,13 @@ pub book_after : (p : Program) (w : ℕ) (ready ready' : Readiness) (m m' : List
     → IsBook p w ready' m' phs' x' ns' es' ss' a' b' c'
 book_after p w ready ready' m m' phs phs' x x' ns ns' es es' ss ss' a b c a' b' c' t def was now new e book changes f = record {
   kept = kept_as p w (es ++ e ∷ []) es' new.statuses ss' new.memory m' (slice_set phs t now.phase) phs' new.exchange x'.exchange new.notices ns' ready'.gone ready.handed ready'.handed a' b' c'
-    f.entries_are f.statuses_are f.memory_is f.phases_are f.exchange_is f.notices_are f.handed'
-    (kept_roomier p w (es ++ e ∷ []) new.statuses new.memory (slice_set phs t now.phase) new.exchange new.notices ready'.gone ready.handed a b c a' b' c' f.entry_places f.status_places f.notice_places
+      f.entries_are f.statuses_are f.memory_is f.phases_are f.exchange_is f.notices_are f.handed'
+      (kept_roomier p w (es ++ e ∷ []) new.statuses new.memory (slice_set phs t now.phase) new.exchange new.notices ready'.gone ready.handed a b c a' b' c' f.entry_places f.status_places f.notice_places
       (kept_after p w es ss new.statuses m phs x.exchange ns ready.gone ready'.gone ready.handed a b c t def was now new e book.kept changes refl f.handed f.gone'));
   of_program = f.of_program' ∙ book.of_program;
   whole = f.whole';
-  engine_of = f.engine_of' ∙ book.engine_of }
+  engine_of = f.engine_of' ∙ book.engine_of;
+}
 
 -- the end of the body
 advanced_past : (def : TaskDef) (k : ℕ) (copy : List ℤ) → length def.body.items ≤ k → advanced def k copy ≡ copy
@@ -185,7 +197,7 @@ pub room_for_entry : (p : Program) (w : ℕ) (ready : Readiness) (m : List ℤ) 
     → (length es < a) × (length ss < b) × (length ns < c)
 room_for_entry p w ready m phs x ns es ss a b c t def was book is_def is_task some =
     let is_phase : slice_get phs t ≡ Some was.phase =
-        ap (λ (z : List Phase). slice_get z t) book.kept.phases_are ∙ slice_get-map (λ (z : Task). z.phase) (final p es).tasks t ∙ ap (option_map (λ (z : Task). z.phase)) is_task in
+    ap (λ (z : List Phase). slice_get z t) book.kept.phases_are ∙ slice_get-map (λ (z : Task). z.phase) (final p es).tasks t ∙ ap (option_map (λ (z : Task). z.phase)) is_task in
     let left = one_left p.tasks.items phs t def was.phase is_def is_phase in
     let entries = book.kept.entry_room in
     let statuses = book.kept.status_room in
@@ -207,23 +219,24 @@ start_book p w ready m phs x ns es es' ss a b c a' t def at book was is_def is_t
     let now : Task = record { phase = stop def 0; copy = advanced def 0 (loaded p def s.memory); named = []; bound = [] } in
     let held = still_held p w ready m phs x ns es ss a b c t was book is_task (ap is_released waiting) in
     book_after p w ready ready m m phs (slice_set phs t at) x x ns ns es es' ss ss a b c a' b c t def was now (start_move p s t def).state (entry.Start (task_no t)) book
-      (start_changes p s t def was is_def is_task waiting may book.kept.orderly)
-      (record {
-        handed = mine;
-        handed' = refl;
-        of_program' = refl;
-        gone' = sym (ap (slice_set ready.gone.released t) (stop_is_held def 0) ∙ slice_set_same ready.gone.released t false held);
-        whole' = book.whole;
-        phases_are = ap (slice_set phs t) stops;
-        memory_is = book.kept.memory_is;
-        engine_of' = refl;
-        exchange_is = book.kept.exchange_is;
-        notices_are = book.kept.notices_are;
-        entries_are = grown;
-        statuses_are = book.kept.legal.told;
-        entry_places = more;
-        status_places = omega arith;
-        notice_places = omega arith })
+    (start_changes p s t def was is_def is_task waiting may book.kept.orderly)
+    (record {
+      handed = mine;
+      handed' = refl;
+      of_program' = refl;
+      gone' = sym (ap (slice_set ready.gone.released t) (stop_is_held def 0) ∙ slice_set_same ready.gone.released t false held);
+      whole' = book.whole;
+      phases_are = ap (slice_set phs t) stops;
+      memory_is = book.kept.memory_is;
+      engine_of' = refl;
+      exchange_is = book.kept.exchange_is;
+      notices_are = book.kept.notices_are;
+      entries_are = grown;
+      statuses_are = book.kept.legal.told;
+      entry_places = more;
+      status_places = omega arith;
+      notice_places = omega arith;
+    })
 
 -- what a move is asked to begin with, in terms of the book's fields
 pub record Asked (p : Program) (es : List Entry) (held : Record) : Type 0 where
@@ -238,7 +251,8 @@ asked l p prog w es ss handed held view same stands may =
     let histories : l.history ≡ es = sym (ap (λ (z : Ledger). z.history) view) in
     record {
       stands = subst (λ (z : Program). StandsFor z held (final z es)) programs (subst (λ (z : List Entry). StandsFor prog held (final prog z)) histories stands);
-      may = subst (λ (z : Program). MayMove z (final z es) held.task) programs (subst (λ (z : List Entry). MayMove prog (final prog z) held.task) histories may) }
+      may = subst (λ (z : Program). MayMove z (final z es) held.task) programs (subst (λ (z : List Entry). MayMove prog (final prog z) held.task) histories may);
+    }
 
 pub same_program : (l : Ledger) (p prog : Program) (w : ℕ) (es : List Entry) (ss : List Status) (handed : List Bool)
     → record { program = p; workers = w; history = es; statuses = ss; handed = handed } ≡ l → prog ≡ l.program → prog ≡ p
@@ -265,21 +279,23 @@ makes_move p w es es' ss ss' handed handed' before after t def was now new e cha
     let end : final p es' ≡ new = ap (final p) grown ∙ final-push p es t new e exists changes.who changes.moved in
     let mine : after.task ≡ t = task ∙ sym who in
     let made : MakesMove (record { program = p; workers = w; history = es; statuses = ss; handed = handed }) (record { program = p; workers = w; history = es'; statuses = ss'; handed = handed' }) before after
-      = record {
-          entry = grown ∙ ap (λ (z : Entry). es ++ z ∷ []) (sym (ap (λ (z : Moved). z.entry) (ap (move p (final p es)) (sym who) ∙ changes.moved)));
-          statuses = told ∙ sym (ap (λ (z : State). z.statuses) end);
-          program = refl;
-          workers = refl;
-          handed = same_marks;
-          task = task;
-          stands = record {
-            same = program;
-            def = def;
-            task = now;
-            is_def = ap (slice_get p.tasks.items) mine ∙ changes.is_def;
-            is_task = ap (slice_get (final p es').tasks) mine ∙ ap (λ (z : State). slice_get z.tasks t) end ∙ ap (λ (z : List Task). slice_get z t) changes.tasks
-                ∙ slice_get-set_same (final p es).tasks t now (slice_get_within (final p es).tasks t was changes.is_task);
-            stands = stands } } in
+    = record {
+      entry = grown ∙ ap (λ (z : Entry). es ++ z ∷ []) (sym (ap (λ (z : Moved). z.entry) (ap (move p (final p es)) (sym who) ∙ changes.moved)));
+      statuses = told ∙ sym (ap (λ (z : State). z.statuses) end);
+      program = refl;
+      workers = refl;
+      handed = same_marks;
+      task = task;
+      stands = record {
+        same = program;
+        def = def;
+        task = now;
+        is_def = ap (slice_get p.tasks.items) mine ∙ changes.is_def;
+        is_task = ap (slice_get (final p es').tasks) mine ∙ ap (λ (z : State). slice_get z.tasks t) end ∙ ap (λ (z : List Task). slice_get z t) changes.tasks
+            ∙ slice_get-set_same (final p es).tasks t now (slice_get_within (final p es).tasks t was changes.is_task);
+        stands = stands;
+      };
+    } in
     subst (λ (z : Ledger). MakesMove z (record { program = p; workers = w; history = es'; statuses = ss'; handed = handed' }) before after) view made
 
 -- a fresh record's task waits
@@ -292,8 +308,8 @@ pub start_invariant : (p prog : Program) (w : ℕ) (ready : Readiness) (m : List
     → at ≡ stop def 0 → es' ≡ es ++ entry.Start (task_no t) ∷ [] → a ≤ a' → IsBook p w ready m (slice_set phs t at) x ns es' ss a' b c
 start_invariant p prog w ready m phs x ns es es' ss a b c a' held t def at book same ask mine fresh who is_def stops grown more =
     start_book p w ready m phs x ns es es' ss a b c a' t def at book ask.stands.task (own_def p prog es held t def same ask who is_def).0
-      (ap (slice_get (final p es).tasks) who ∙ ask.stands.is_task) (is_waiting p es held ask fresh) (subst (MayMove p (final p es)) (sym who) ask.may)
-      (ap (slice_get ready.handed) who ∙ mine) stops grown more
+    (ap (slice_get (final p es).tasks) who ∙ ask.stands.is_task) (is_waiting p es held ask fresh) (subst (MayMove p (final p es)) (sym who) ask.may)
+    (ap (slice_get ready.handed) who ∙ mine) stops grown more
 
 pub start_makes : (p prog : Program) (w : ℕ) (ready : Readiness) (m : List ℤ) (phs : List Phase) (x : Switch) (ns : List ReqNo) (es es' : List Entry) (ss : List Status) (a b c : ℕ)
     (held loaded_held after : Record) (t : ℕ) (def : TaskDef) (at : Phase) (memory : List ℤ)
@@ -307,14 +323,14 @@ start_makes p prog w ready m phs x ns es es' ss a b c held loaded_held after t d
     let s : State = final p es in
     let now : Task = record { phase = stop def 0; copy = advanced def 0 (loaded p def s.memory); named = []; bound = [] } in
     let copied : loaded prog (def_of held.program held.task) memory ≡ loaded p def s.memory =
-        ap (λ (z : Program). loaded z (def_of held.program held.task) memory) same ∙ ap (λ (d : TaskDef). loaded p d memory) held_def ∙ ap (loaded p def) (memories ∙ book.kept.memory_is) in
+    ap (λ (z : Program). loaded z (def_of held.program held.task) memory) same ∙ ap (λ (d : TaskDef). loaded p d memory) held_def ∙ ap (loaded p def) (memories ∙ book.kept.memory_is) in
     let whole : after ≡ record held { copy = loaded p def s.memory; phase = phase_before def 0 } =
-        go ∙ ap (λ (z : Record). record z { phase = at }) load ∙ ap (λ (q : Phase). record held { copy = loaded prog (def_of held.program held.task) memory; phase = q }) stops
-        ∙ ap (λ (cs : List ℤ). record held { copy = cs; phase = phase_before def 0 }) copied in
+    go ∙ ap (λ (z : Record). record z { phase = at }) load ∙ ap (λ (q : Phase). record held { copy = loaded prog (def_of held.program held.task) memory; phase = q }) stops
+    ∙ ap (λ (cs : List ℤ). record held { copy = cs; phase = phase_before def 0 }) copied in
     makes_move p w es es' ss ss ready.handed ready.handed held after t def ask.stands.task now (start_move p s t def).state (entry.Start (task_no t))
-      (start_changes p s t def ask.stands.task own.0 (ap (slice_get s.tasks) who ∙ ask.stands.is_task) (is_waiting p es held ask fresh) (subst (MayMove p s) (sym who) ask.may) book.kept.orderly)
-      who grown book.kept.legal.told refl (ap (λ (z : Record). z.task) whole) (ap (λ (z : Record). z.program) whole ∙ ask.stands.same)
-      (subst (λ (z : Record). StandsAs def z.phase z.copy now) (sym whole) (stands_before def 0 (loaded p def s.memory) now refl refl)) l view
+    (start_changes p s t def ask.stands.task own.0 (ap (slice_get s.tasks) who ∙ ask.stands.is_task) (is_waiting p es held ask fresh) (subst (MayMove p s) (sym who) ask.may) book.kept.orderly)
+    who grown book.kept.legal.told refl (ap (λ (z : Record). z.task) whole) (ap (λ (z : Record). z.program) whole ∙ ask.stands.same)
+    (subst (λ (z : Record). StandsAs def z.phase z.copy now) (sym whole) (stands_before def 0 (loaded p def s.memory) now refl refl)) l view
 
 pub room_at_start : (p : Program) (w : ℕ) (ready : Readiness) (m : List ℤ) (phs : List Phase) (x : Switch) (ns : List ReqNo) (es : List Entry) (ss : List Status) (a b c : ℕ) (held : Record)
     → IsBook p w ready m phs x ns es ss a b c → Asked p es held → held.phase ≡ phase.Waiting → length es < a
@@ -330,11 +346,12 @@ new_book p w ready m phs x ns es ss a b c well fresh whole of_engine quiet is_m 
     let left = all_left_at_opening p.tasks.items in
     record {
       kept = kept_as p w [] es [] ss (replicate (memory_len p) (pos 0)) m (replicate (length p.tasks.items) phase.Waiting) phs (silent p.ranks) x.exchange [] ns ready.gone ready.handed ready.handed a b c
-        is_es is_ss is_m is_phs quiet is_ns refl
-        (kept_at_opening p w ready.gone ready.handed a b c well (ap (λ (r : Readiness). r.gone.released) fresh) (omega arith) (omega arith) (omega arith) (omega arith));
+          is_es is_ss is_m is_phs quiet is_ns refl
+          (kept_at_opening p w ready.gone ready.handed a b c well (ap (λ (r : Readiness). r.gone.released) fresh) (omega arith) (omega arith) (omega arith) (omega arith));
       of_program = ap (λ (r : Readiness). r.program) fresh;
       whole = whole;
-      engine_of = of_engine }
+      engine_of = of_engine;
+    }
 
 -- what the graph says of a task is what the machine's state says of it
 pub gone_of : (p : Program) (w : ℕ) (ready : Readiness) (m : List ℤ) (phs : List Phase) (x : Switch) (ns : List ReqNo) (es : List Entry) (ss : List Status) (a b c : ℕ)
@@ -350,8 +367,8 @@ pub is_ready : (p : Program) (w : ℕ) (ready : Readiness) (m : List ℤ) (phs :
     → (t : ℕ) → IsStartable ready t → IsReady l t
 is_ready p w ready m phs x ns es ss a b c book l view t startable =
     subst (λ (z : Ledger). IsReady z t) view
-      (subst (λ (g : LetGo). MayBeHanded ready.handed p g t) (gone_of p w ready m phs x ns es ss a b c book)
-        (subst (λ (q : Program). MayBeHanded ready.handed q ready.gone t) book.of_program startable))
+    (subst (λ (g : LetGo). MayBeHanded ready.handed p g t) (gone_of p w ready m phs x ns es ss a b c book)
+    (subst (λ (q : Program). MayBeHanded ready.handed q ready.gone t) book.of_program startable))
 
 pub is_startable : (p : Program) (w : ℕ) (ready : Readiness) (m : List ℤ) (phs : List Phase) (x : Switch) (ns : List ReqNo) (es : List Entry) (ss : List Status) (a b c : ℕ)
     → IsBook p w ready m phs x ns es ss a b c → (l : Ledger) → record { program = p; workers = w; history = es; statuses = ss; handed = ready.handed } ≡ l
@@ -359,7 +376,7 @@ pub is_startable : (p : Program) (w : ℕ) (ready : Readiness) (m : List ℤ) (p
 is_startable p w ready m phs x ns es ss a b c book l view t here =
     let own : IsReady (record { program = p; workers = w; history = es; statuses = ss; handed = ready.handed }) t = subst (λ (z : Ledger). IsReady z t) (sym view) here in
     subst (λ (q : Program). MayBeHanded ready.handed q ready.gone t) (sym book.of_program)
-      (subst (λ (g : LetGo). MayBeHanded ready.handed p g t) (sym (gone_of p w ready m phs x ns es ss a b c book)) own)
+    (subst (λ (g : LetGo). MayBeHanded ready.handed p g t) (sym (gone_of p w ready m phs x ns es ss a b c book)) own)
 
 pub ready_found : (p : Program) (w : ℕ) (ready : Readiness) (m : List ℤ) (phs : List Phase) (x : Switch) (ns : List ReqNo) (es : List Entry) (ss : List Status) (a b c : ℕ)
     → IsBook p w ready m phs x ns es ss a b c → (l : Ledger) → record { program = p; workers = w; history = es; statuses = ss; handed = ready.handed } ≡ l
@@ -394,13 +411,24 @@ ready_book p w ready ready' m phs x ns es ss a b c found book programs gone whol
     let k = book.kept in
     record {
       kept = record {
-        well = k.well; legal = k.legal; memory_is = k.memory_is; phases_are = k.phases_are; exchange_is = k.exchange_is; notices_are = k.notices_are;
-        gone_is = ap (λ (g : LetGo). g.released) gone ∙ k.gone_is; orderly = k.orderly;
+        well = k.well;
+        legal = k.legal;
+        memory_is = k.memory_is;
+        phases_are = k.phases_are;
+        exchange_is = k.exchange_is;
+        notices_are = k.notices_are;
+        gone_is = ap (λ (g : LetGo). g.released) gone ∙ k.gone_is;
+        orderly = k.orderly;
         begun = λ u at here started. still_handed_out ready ready' found u more same (k.begun u at here started);
-        few_statuses = k.few_statuses; entry_room = k.entry_room; status_room = k.status_room; notice_room = k.notice_room };
+        few_statuses = k.few_statuses;
+        entry_room = k.entry_room;
+        status_room = k.status_room;
+        notice_room = k.notice_room;
+      };
       of_program = programs ∙ book.of_program;
       whole = whole;
-      engine_of = book.engine_of }
+      engine_of = book.engine_of;
+    }
 
 -- a book's statuses can be counted in 32 bits
 pub status_count : (p : Program) (w : ℕ) (ready : Readiness) (m : List ℤ) (phs : List Phase) (x : Switch) (ns : List ReqNo) (es : List Entry) (ss : List Status) (a b c : ℕ)

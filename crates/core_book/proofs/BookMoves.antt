@@ -1,9 +1,7 @@
 -- What the end of a body, a release and a question owe, in terms of a book's fields.
-use Rattle.std.proofs.Common.{◌≡◌, ◌≢◌, ℕ, zero, suc, ◌+◌, ◌-◌, ◌*◌, ◌^◌, ◌<◌, ◌≤◌, ◌↔◌, Bool, true, false, List, [], ◌∷◌, ◌++◌, length, map, slice_get, slice_set, take, drop, Some, None, Option, IsTrue, refl, sym, ap, ◌∙◌, subst, All, arith, rules}
+use Rattle.std.proofs.Common.{◌≡◌, ◌≢◌, ℕ, ◌<◌, ◌≤◌, Bool, true, false, List, [], ◌∷◌, ◌++◌, length, slice_get, slice_set, take, drop, Some, refl, sym, ap, ◌∙◌, subst, arith}
 use Rattle.std.specs.Prelude.{ℤ, option_map}
 use Rattle.std.proofs.Math.Seq.{take-append_seam}
-use Rattle.std.proofs.lemmas.Option.{slice_get_within}
-use Rattle.rt_base.specs.declared.data.TaskNo.{TaskNo}
 use Rattle.rt_base.specs.declared.data.ReqNo.{ReqNo}
 use Rattle.rt_base.specs.declared.data.Phase.{Phase}
 use Rattle.rt_base.specs.declared.data.Phase.TheVariants as phase
@@ -13,23 +11,21 @@ use Rattle.rt_base.specs.declared.data.Entry.TheVariants as entry
 use Rattle.rt_base.specs.declared.data.TaskDef.{TaskDef}
 use Rattle.rt_base.specs.declared.data.Program.{Program}
 use Rattle.rt_base.specs.Layout.{memory_len}
-use Rattle.rt_base.specs.Operations.{task_no, awaited}
-use Rattle.rt_base.specs.Precedes.{LetGo, MayStart}
-use Rattle.rt_base.specs.Exchange.{Exchange}
-use Rattle.rt_base.specs.State.{State, Task, is_released, let_go}
-use Rattle.rt_base.specs.MayMove.{MayMove, MayMoveAt, AreComplete}
+use Rattle.rt_base.specs.Operations.{task_no}
+use Rattle.rt_base.specs.State.{State, Task, is_released}
+use Rattle.rt_base.specs.MayMove.{MayMove, MayMoveAt}
 use Rattle.match_engine.specs.Switch.{Switch}
 use Rattle.region_deps.specs.Readiness.{Readiness, IsWhole}
 use Rattle.task_local.specs.Regions.{saved}
 use Rattle.task_local.specs.Standing.{def_of}
 use Rattle.task_local.specs.StandsFor.{Record, StandsFor, StandsAs}
 use Rattle.core_book.specs.Machine.{return_move}
-use Rattle.core_book.specs.Legal.{final, IsFinished}
+use Rattle.core_book.specs.Legal.{final}
 use Rattle.core_book.specs.Ledger.{Ledger, MakesMove}
 use Rattle.core_book.specs.Kept.{IsBook, moves_left}
 use Rattle.core_book.proofs.Lists.{slice_set_same, slice_get-map}
 use Rattle.core_book.proofs.Changes.{return_changes, release_changes}
-use Rattle.core_book.proofs.BookLemmas.{Asked, Follows, book_after, still_held, def_is, room_for_entry, makes_move, gone_of}
+use Rattle.core_book.proofs.BookLemmas.{Asked, book_after, still_held, def_is, room_for_entry, makes_move}
 
 -- a list that was lent whole comes back whole
 pub whole_back : (new old : List ℤ) (len : ℕ) → length new ≡ len → length old ≡ len → take len (new ++ drop (length new) old) ≡ new
@@ -50,8 +46,13 @@ pub asked_to_return : (p : Program) (es : List Entry) (held : Record) → Stands
 asked_to_return p es held stands ended = record {
   stands = stands;
   may = record {
-    def = stands.def; task = stands.task; is_def = stands.is_def; is_task = stands.is_task;
-    enabled = subst (λ (at : Phase). MayMoveAt p (final p es).tasks (final p es).exchange held.task stands.def stands.task at) (sym (may_return p es held stands ended).0) tt } }
+    def = stands.def;
+    task = stands.task;
+    is_def = stands.is_def;
+    is_task = stands.is_task;
+    enabled = subst (λ (at : Phase). MayMoveAt p (final p es).tasks (final p es).exchange held.task stands.def stands.task at) (sym (may_return p es held stands ended).0) tt;
+  };
+}
 
 pub stands_here : (l : Ledger) (p prog : Program) (w : ℕ) (es : List Entry) (ss : List Status) (handed : List Bool) (held : Record)
     → record { program = p; workers = w; history = es; statuses = ss; handed = handed } ≡ l → prog ≡ l.program → StandsFor prog held (final prog l.history) → StandsFor p held (final p es)
@@ -77,23 +78,24 @@ ret_invariant p w ready m phs x ns es es' ss a b c a' held t book stands ended w
     let ask = asked_to_return p es held stands ended in
     let marks = still_held p w ready m phs x ns es ss a b c t was book is_task (ap is_released at) in
     book_after p w ready ready m m phs (slice_set phs t phase.Returned) x x ns ns es es' ss ss a b c a' b c t stands.def was (record was { phase = phase.Returned }) (return_move s t was).state (entry.Return (task_no t)) book
-      (return_changes p s t stands.def was (ap (slice_get p.tasks.items) who ∙ stands.is_def) is_task at (subst (MayMove p s) (sym who) ask.may) book.kept.orderly)
-      (record {
-        handed = handed_of p w ready m phs x ns es ss a b c t was book is_task (λ e. ended_waits was.phase at e);
-        handed' = refl;
-        of_program' = refl;
-        gone' = sym (slice_set_same ready.gone.released t false marks);
-        whole' = book.whole;
-        phases_are = refl;
-        memory_is = book.kept.memory_is;
-        engine_of' = refl;
-        exchange_is = book.kept.exchange_is;
-        notices_are = book.kept.notices_are;
-        entries_are = grown;
-        statuses_are = book.kept.legal.told;
-        entry_places = more;
-        status_places = omega arith;
-        notice_places = omega arith })
+    (return_changes p s t stands.def was (ap (slice_get p.tasks.items) who ∙ stands.is_def) is_task at (subst (MayMove p s) (sym who) ask.may) book.kept.orderly)
+    (record {
+      handed = handed_of p w ready m phs x ns es ss a b c t was book is_task (λ e. ended_waits was.phase at e);
+      handed' = refl;
+      of_program' = refl;
+      gone' = sym (slice_set_same ready.gone.released t false marks);
+      whole' = book.whole;
+      phases_are = refl;
+      memory_is = book.kept.memory_is;
+      engine_of' = refl;
+      exchange_is = book.kept.exchange_is;
+      notices_are = book.kept.notices_are;
+      entries_are = grown;
+      statuses_are = book.kept.legal.told;
+      entry_places = more;
+      status_places = omega arith;
+      notice_places = omega arith;
+    })
 
 pub ret_makes : (p : Program) (w : ℕ) (ready : Readiness) (m : List ℤ) (phs : List Phase) (x : Switch) (ns : List ReqNo) (es es' : List Entry) (ss : List Status) (a b c : ℕ) (held after : Record) (t : ℕ)
     → IsBook p w ready m phs x ns es ss a b c → StandsFor p held (final p es) → held.phase ≡ phase.Ended → t ≡ held.task → es' ≡ es ++ entry.Return (task_no t) ∷ []
@@ -106,9 +108,9 @@ ret_makes p w ready m phs x ns es es' ss a b c held after t book stands ended wh
     let at = may_return p es held stands ended in
     let ask = asked_to_return p es held stands ended in
     makes_move p w es es' ss ss ready.handed ready.handed held after t stands.def was now (return_move s t was).state (entry.Return (task_no t))
-      (return_changes p s t stands.def was (ap (slice_get p.tasks.items) who ∙ stands.is_def) (ap (slice_get s.tasks) who ∙ stands.is_task) at.0 (subst (MayMove p s) (sym who) ask.may) book.kept.orderly)
-      who grown book.kept.legal.told refl (ap (λ (z : Record). z.task) went) (ap (λ (z : Record). z.program) went ∙ stands.same)
-      (subst (λ (z : Record). StandsAs stands.def z.phase z.copy now) (sym went) (refl, at.1)) l view
+    (return_changes p s t stands.def was (ap (slice_get p.tasks.items) who ∙ stands.is_def) (ap (slice_get s.tasks) who ∙ stands.is_task) at.0 (subst (MayMove p s) (sym who) ask.may) book.kept.orderly)
+    who grown book.kept.legal.told refl (ap (λ (z : Record). z.task) went) (ap (λ (z : Record). z.program) went ∙ stands.same)
+    (subst (λ (z : Record). StandsAs stands.def z.phase z.copy now) (sym went) (refl, at.1)) l view
 
 pub room_at_return : (p : Program) (w : ℕ) (ready : Readiness) (m : List ℤ) (phs : List Phase) (x : Switch) (ns : List ReqNo) (es : List Entry) (ss : List Status) (a b c : ℕ) (held : Record)
     → IsBook p w ready m phs x ns es ss a b c → StandsFor p held (final p es) → held.phase ≡ phase.Ended → length es < a
@@ -126,7 +128,7 @@ saved_now : (p prog : Program) (es : List Entry) (held : Record) (m m' : List �
 saved_now p prog es held m m' stands same copies memories put =
     let held_def : def_of held.program held.task ≡ stands.def = ap (λ (z : Program). def_of z held.task) stands.same ∙ def_is p held.task stands.def stands.is_def in
     put ∙ ap (λ (z : Program). saved z (def_of held.program held.task) held.copy m) same ∙ ap (λ (d : TaskDef). saved p d held.copy m) held_def
-      ∙ ap (λ (cs : List ℤ). saved p stands.def cs m) copies ∙ ap (saved p stands.def stands.task.copy) memories
+    ∙ ap (λ (cs : List ℤ). saved p stands.def cs m) copies ∙ ap (saved p stands.def stands.task.copy) memories
 
 pub release_invariant : (p prog : Program) (w : ℕ) (ready ready' : Readiness) (m m' : List ℤ) (phs : List Phase) (x : Switch) (ns : List ReqNo) (es es' : List Entry) (ss : List Status) (a b c a' : ℕ) (held : Record) (t n : ℕ)
     → IsBook p w ready m phs x ns es ss a b c → prog ≡ p → (ask : Asked p es held) → held.phase ≡ phase.Returned → t ≡ held.task
@@ -142,27 +144,28 @@ release_invariant p prog w ready ready' m m' phs x ns es es' ss a b c a' held t 
     let is_task : slice_get s.tasks t ≡ Some was = ap (slice_get s.tasks) who ∙ stands.is_task in
     let is_put = saved_now p prog es held m m' stands same at.1 book.kept.memory_is put in
     let cells : length (saved p stands.def was.copy s.memory) ≡ memory_len p =
-        ap (λ (z : List ℤ). length z) (sym is_put) ∙ long ∙ ap (λ (z : List ℤ). length z) book.kept.memory_is ∙ book.kept.orderly.cells in
+    ap (λ (z : List ℤ). length z) (sym is_put) ∙ long ∙ ap (λ (z : List ℤ). length z) book.kept.memory_is ∙ book.kept.orderly.cells in
     let count : n ≡ length s.statuses = told ∙ ap (λ (z : List Status). length z) book.kept.legal.told in
     book_after p w ready ready' m m' phs (slice_set phs t phase.Released) x x ns ns es es' ss ss a b c a' b c t stands.def was (record was { phase = phase.Released })
-      (record s { memory = saved p stands.def was.copy s.memory; tasks = slice_set s.tasks t (record was { phase = phase.Released }) }) (entry.Release (task_no t) (length s.statuses) 0) book
-      (release_changes p s t stands.def was (ap (slice_get p.tasks.items) who ∙ stands.is_def) is_task at.0 (subst (MayMove p s) (sym who) ask.may) book.kept.orderly cells)
-      (record {
-        handed = handed_of p w ready m phs x ns es ss a b c t was book is_task (λ e. returned_waits was.phase at.0 e);
-        handed' = marks;
-        of_program' = programs;
-        gone' = freed;
-        whole' = whole;
-        phases_are = refl;
-        memory_is = is_put;
-        engine_of' = refl;
-        exchange_is = book.kept.exchange_is;
-        notices_are = book.kept.notices_are;
-        entries_are = grown ∙ ap (λ (i : ℕ). es ++ entry.Release (task_no t) i 0 ∷ []) count;
-        statuses_are = book.kept.legal.told;
-        entry_places = more;
-        status_places = omega arith;
-        notice_places = omega arith })
+    (record s { memory = saved p stands.def was.copy s.memory; tasks = slice_set s.tasks t (record was { phase = phase.Released }) }) (entry.Release (task_no t) (length s.statuses) 0) book
+    (release_changes p s t stands.def was (ap (slice_get p.tasks.items) who ∙ stands.is_def) is_task at.0 (subst (MayMove p s) (sym who) ask.may) book.kept.orderly cells)
+    (record {
+      handed = handed_of p w ready m phs x ns es ss a b c t was book is_task (λ e. returned_waits was.phase at.0 e);
+      handed' = marks;
+      of_program' = programs;
+      gone' = freed;
+      whole' = whole;
+      phases_are = refl;
+      memory_is = is_put;
+      engine_of' = refl;
+      exchange_is = book.kept.exchange_is;
+      notices_are = book.kept.notices_are;
+      entries_are = grown ∙ ap (λ (i : ℕ). es ++ entry.Release (task_no t) i 0 ∷ []) count;
+      statuses_are = book.kept.legal.told;
+      entry_places = more;
+      status_places = omega arith;
+      notice_places = omega arith;
+    })
 
 pub release_makes : (p prog : Program) (w : ℕ) (ready : Readiness) (m m' : List ℤ) (phs : List Phase) (x : Switch) (ns : List ReqNo) (es es' : List Entry) (ss : List Status) (a b c : ℕ) (marks' : List Bool) (held after : Record) (t n : ℕ)
     → IsBook p w ready m phs x ns es ss a b c → prog ≡ p → (ask : Asked p es held) → held.phase ≡ phase.Returned → t ≡ held.task
@@ -178,13 +181,13 @@ release_makes p prog w ready m m' phs x ns es es' ss a b c marks' held after t n
     let at = is_returned p es held stands returned in
     let is_put = saved_now p prog es held m m' stands same at.1 book.kept.memory_is put in
     let cells : length (saved p stands.def was.copy s.memory) ≡ memory_len p =
-        ap (λ (z : List ℤ). length z) (sym is_put) ∙ long ∙ ap (λ (z : List ℤ). length z) book.kept.memory_is ∙ book.kept.orderly.cells in
+    ap (λ (z : List ℤ). length z) (sym is_put) ∙ long ∙ ap (λ (z : List ℤ). length z) book.kept.memory_is ∙ book.kept.orderly.cells in
     let count : n ≡ length s.statuses = told ∙ ap (λ (z : List Status). length z) book.kept.legal.told in
     makes_move p w es es' ss ss ready.handed marks' held after t stands.def was now
-      (record s { memory = saved p stands.def was.copy s.memory; tasks = slice_set s.tasks t now }) (entry.Release (task_no t) (length s.statuses) 0)
-      (release_changes p s t stands.def was (ap (slice_get p.tasks.items) who ∙ stands.is_def) (ap (slice_get s.tasks) who ∙ stands.is_task) at.0 (subst (MayMove p s) (sym who) ask.may) book.kept.orderly cells)
-      who (grown ∙ ap (λ (i : ℕ). es ++ entry.Release (task_no t) i 0 ∷ []) count) book.kept.legal.told marks (ap (λ (z : Record). z.task) went) (ap (λ (z : Record). z.program) went ∙ stands.same)
-      (subst (λ (z : Record). StandsAs stands.def z.phase z.copy now) (sym went) (refl, at.1)) l view
+    (record s { memory = saved p stands.def was.copy s.memory; tasks = slice_set s.tasks t now }) (entry.Release (task_no t) (length s.statuses) 0)
+    (release_changes p s t stands.def was (ap (slice_get p.tasks.items) who ∙ stands.is_def) (ap (slice_get s.tasks) who ∙ stands.is_task) at.0 (subst (MayMove p s) (sym who) ask.may) book.kept.orderly cells)
+    who (grown ∙ ap (λ (i : ℕ). es ++ entry.Release (task_no t) i 0 ∷ []) count) book.kept.legal.told marks (ap (λ (z : Record). z.task) went) (ap (λ (z : Record). z.program) went ∙ stands.same)
+    (subst (λ (z : Record). StandsAs stands.def z.phase z.copy now) (sym went) (refl, at.1)) l view
 
 pub room_at_release : (p : Program) (w : ℕ) (ready : Readiness) (m : List ℤ) (phs : List Phase) (x : Switch) (ns : List ReqNo) (es : List Entry) (ss : List Status) (a b c : ℕ) (held : Record)
     → IsBook p w ready m phs x ns es ss a b c → (stands : StandsFor p held (final p es)) → held.phase ≡ phase.Returned → length es < a

@@ -1,12 +1,11 @@
 -- What the call of a posting owes, in terms of a book's fields.
-use Rattle.std.proofs.Common.{◌≡◌, ◌≢◌, ℕ, zero, suc, ◌+◌, ◌-◌, ◌*◌, ◌^◌, ◌<◌, ◌≤◌, ◌⊎◌, Bool, true, false, not, ◌&&◌, cond, List, [], ◌∷◌, ◌++◌, length, map, take, drop, filter, slice_get, slice_set, get_or, Some, None, Option, refl, sym, ap, ◌∙◌, subst, inl, inr, ltb, lit<, arith, rules}
-use Rattle.std.specs.Prelude.{ℤ, option_map, option_and_then, count_by, IfSome, nat_lt, unwrap_or}
+use Rattle.std.proofs.Common.{◌≡◌, ℕ, zero, suc, ◌+◌, ◌-◌, ◌*◌, ◌^◌, ◌<◌, ◌≤◌, ◌⊎◌, Bool, true, false, not, ◌&&◌, cond, List, [], ◌∷◌, ◌++◌, length, map, take, drop, filter, slice_get, slice_set, Some, None, Option, refl, sym, ap, ◌∙◌, subst, inl, inr, lit<, arith}
+use Rattle.std.specs.Prelude.{ℤ, option_map, option_and_then, count_by, IfSome, unwrap_or}
 use Rattle.std.specs.List.{list_any}
-use Rattle.std.proofs.lemmas.Option.{slice_get_within, slice_get-get_or, get_or_from_slice_get}
-use Rattle.std.proofs.lemmas.List.{length-append, length-take, length-drop}
+use Rattle.std.proofs.lemmas.Option.{slice_get_within, get_or_from_slice_get}
+use Rattle.std.proofs.lemmas.List.{length-take, length-drop}
 use Rattle.std.proofs.lemmas.List.Sums.{sum_by-cons}
 use Rattle.rt_base.specs.declared.data.ReqNo.{ReqNo}
-use Rattle.rt_base.specs.declared.data.Access.{Access}
 use Rattle.rt_base.specs.declared.data.Span.{Span}
 use Rattle.rt_base.specs.declared.data.Peer.{Peer}
 use Rattle.rt_base.specs.declared.data.TagSel.{TagSel}
@@ -21,13 +20,13 @@ use Rattle.rt_base.specs.declared.data.Entry.TheVariants as entry
 use Rattle.rt_base.specs.declared.data.TaskDef.{TaskDef}
 use Rattle.rt_base.specs.declared.data.Program.{Program}
 use Rattle.rt_base.specs.Spans.{span_len}
-use Rattle.rt_base.specs.Operations.{task_no, request, blocks, is_receive, is_posting, posting_of, nth_at, awaited}
+use Rattle.rt_base.specs.Operations.{task_no, request, blocks, is_receive, is_posting, posting_of, nth_at}
 use Rattle.rt_base.specs.Matching.{same_request}
 use Rattle.rt_base.specs.Exchange.{Exchange, post, partner}
 use Rattle.rt_base.specs.Completion.{is_posted, is_complete, completes_alone}
 use Rattle.rt_base.specs.State.{State, Task, is_released}
 use Rattle.rt_base.specs.MayMove.{MayMove, MayMoveAt}
-use Rattle.rt_base.specs.WellFormed.{WellFormed, IsTask, IsOperation, IsPostingOf, IsSendOf, IsDeclared, MayRead}
+use Rattle.rt_base.specs.WellFormed.{WellFormed, IsTask, IsOperation, IsPostingOf, IsDeclared}
 use Rattle.match_engine.specs.Switch.{Switch}
 use Rattle.match_engine.specs.Requests.{IsSend, IsReceive, Sends, Receives}
 use Rattle.region_deps.specs.Readiness.{Readiness}
@@ -39,12 +38,12 @@ use Rattle.task_local.specs.Packed.{packed, packed_by}
 use Rattle.task_local.specs.Standing.{phase_before, def_of, at_phase, at_operation, packed_next, Follows, IsCall, no_task}
 use Rattle.task_local.specs.StandsFor.{Record, StandsFor, StandsAs, declared_cells}
 use Rattle.rt_base.specs.declared.data.How.TheVariants as how
-use Rattle.core_book.specs.Machine.{Moved, move, post_move, or_none, posted_task, noticed, awaited_at, listened, is_expected, open_count, phase_at, bound_at}
+use Rattle.core_book.specs.Machine.{Moved, move, post_move, or_none, posted_task, noticed, awaited_at, is_expected, open_count, phase_at, bound_at}
 use Rattle.core_book.specs.Legal.{final}
 use Rattle.core_book.specs.Ledger.{Ledger, MakesMove, IsPosting, IsAtPosting, LeavesPending}
-use Rattle.core_book.specs.Kept.{IsBook, PostsAs, IsCallAt, moves_left, posted_by_phase, awaits_now, noticed_now}
+use Rattle.core_book.specs.Kept.{IsBook, PostsAs, moves_left, posted_by_phase, awaits_now, noticed_now}
 use Rattle.core_book.proofs.Lists.{slice_set_same, slice_get-map}
-use Rattle.core_book.proofs.Stops.{drop_at, stop_here}
+use Rattle.core_book.proofs.Stops.{drop_at}
 use Rattle.std.proofs.lemmas.Bool.{false_from_ne_true}
 use Rattle.task_local.proofs.Places.{declared_fits}
 use Rattle.core_book.proofs.After.{Changes}
@@ -118,7 +117,7 @@ calls l p prog w es ss handed held t k def how span status found view same stand
     let held_def : def_of held.program held.task ≡ def = ap (λ (z : Program). def_of z held.task) stands.same ∙ def_is p held.task stands.def stands.is_def ∙ one_def in
     let phases : held.phase ≡ phase.At k = call_by_phase (def_of held.program held.task) held.phase k posting (sym read ∙ called) in
     let here_stands : StandsAs def (phase.At k) held.copy stands.task =
-        subst (λ (d : TaskDef). StandsAs d (phase.At k) held.copy stands.task) one_def (subst (λ (q : Phase). StandsAs stands.def q held.copy stands.task) phases stands.stands) in
+    subst (λ (d : TaskDef). StandsAs d (phase.At k) held.copy stands.task) one_def (subst (λ (q : Phase). StandsAs stands.def q held.copy stands.task) phases stands.stands) in
     record {
       was = stands.task;
       is_def = here;
@@ -132,12 +131,17 @@ calls l p prog w es ss handed held t k def how span status found view same stand
       peer = posts.peer;
       tag = posts.tag;
       comm = posts.comm;
-      is_op = posts.is }
+      is_op = posts.is;
+    }
 
 call_may : (p : Program) (es : List Entry) (held : Record) (t k : ℕ) (def : TaskDef) (how : How) (span : Span) (status : Option Span) → (c : Calls p es held t k def how span status) → MayMove p (final p es) t
 call_may p es held t k def how span status c = record {
-  def = def; task = c.was; is_def = c.is_def; is_task = c.is_task;
-  enabled = subst (λ (q : Phase). MayMoveAt p (final p es).tasks (final p es).exchange t def c.was q) (sym c.at) tt }
+  def = def;
+  task = c.was;
+  is_def = c.is_def;
+  is_task = c.is_task;
+  enabled = subst (λ (q : Phase). MayMoveAt p (final p es).tasks (final p es).exchange t def c.was q) (sym c.at) tt;
+}
 
 pub call_within : (p : Program) (es : List Entry) (held : Record) (t k : ℕ) (def : TaskDef) (how : How) (span : Span) (status : Option Span) → Calls p es held t k def how span status → k < length def.body.items
 call_within p es held t k def how span status c = slice_get_within def.body.items k (op.Post how span c.peer c.tag c.comm status) c.is_op
@@ -225,25 +229,26 @@ call_sends p es held t k def how span status cells n c well packs counted nth se
     let declared = send_declares p def how span c.peer c.tag status sends (operation_is p t k def x well c.is_def c.is_op).0 in
     let whole : length c.was.copy ≡ declared_cells def = ap (λ (cs : List ℤ). length cs) (sym c.copy) ∙ counted ∙ ap declared_cells c.held_def in
     let is_cells : cells ≡ cells_of_span def span c.was.copy = call_packs p es held t k def how span status cells c packs ∙ packed_post def k c.was.copy how span c.peer c.tag c.comm status c.is_op
-        ∙ ap (λ (b : Bool). cond b [] (cells_of_span def span c.was.copy)) sends in
+    ∙ ap (λ (b : Bool). cond b [] (cells_of_span def span c.was.copy)) sends in
     subst (Sends (length cells)) (sym (ap (λ (i : ℕ). posting_of p (request t i)) nth ∙ posting_is p t k def how span c.peer c.tag c.comm status c.is_def c.is_op))
-        (sends, ap (λ (cs : List ℤ). length cs) is_cells ∙ whole_span def span c.was.copy declared whole)
+    (sends, ap (λ (cs : List ℤ). length cs) is_cells ∙ whole_span def span c.was.copy declared whole)
 
 pub call_receives : (p : Program) (es : List Entry) (held : Record) (t k : ℕ) (def : TaskDef) (how : How) (span : Span) (status : Option Span) (cells : List ℤ) (n : ℕ) → (c : Calls p es held t k def how span status)
     → cells ≡ packed_next (def_of held.program held.task) held.phase held.copy → n ≡ nth_at def k → is_receive how ≡ true → IsReceive p (record { task = task_no t; nth = n }) × (cells ≡ [])
-call_receives p es held t k def how span status cells n c packs nth receives =
-    (subst Receives (sym (ap (λ (i : ℕ). posting_of p (request t i)) nth ∙ posting_is p t k def how span c.peer c.tag c.comm status c.is_def c.is_op)) receives,
-     call_packs p es held t k def how span status cells c packs ∙ packed_post def k c.was.copy how span c.peer c.tag c.comm status c.is_op
-        ∙ ap (λ (b : Bool). cond b [] (cells_of_span def span c.was.copy)) receives)
+call_receives p es held t k def how span status cells n c packs nth receives = (
+  subst Receives (sym (ap (λ (i : ℕ). posting_of p (request t i)) nth ∙ posting_is p t k def how span c.peer c.tag c.comm status c.is_def c.is_op)) receives,
+  call_packs p es held t k def how span status cells c packs ∙ packed_post def k c.was.copy how span c.peer c.tag c.comm status c.is_op
+      ∙ ap (λ (b : Bool). cond b [] (cells_of_span def span c.was.copy)) receives,
+)
 
 pub call_is_new : (p : Program) (w : ℕ) (ready : Readiness) (m : List ℤ) (phs : List Phase) (x : Switch) (ns : List ReqNo) (es : List Entry) (ss : List Status) (a b c : ℕ)
     (held : Record) (t k : ℕ) (def : TaskDef) (how : How) (span : Span) (status : Option Span) (n : ℕ)
     → IsBook p w ready m phs x ns es ss a b c → (call : Calls p es held t k def how span status) → n ≡ nth_at def k → is_posted x.exchange (record { task = task_no t; nth = n }) ≡ false
 call_is_new p w ready m phs x ns es ss a b c held t k def how span status n book call nth =
     false_from_ne_true (is_posted x.exchange (request t n)) (λ posted.
-        let already = book.kept.orderly.posted t n def call.was call.is_def call.is_task (subst (λ (e : Exchange). is_posted e (request t n) ≡ true) book.kept.exchange_is posted) in
-        let count : posted_by_phase def call.was.phase ≡ nth_at def k = ap (posted_by_phase def) call.at in
-        absurd (omega arith))
+    let already = book.kept.orderly.posted t n def call.was call.is_def call.is_task (subst (λ (e : Exchange). is_posted e (request t n) ≡ true) book.kept.exchange_is posted) in
+    let count : posted_by_phase def call.was.phase ≡ nth_at def k = ap (posted_by_phase def) call.at in
+    absurd (omega arith))
 
 pub call_room : (p : Program) (w : ℕ) (ready : Readiness) (m : List ℤ) (phs : List Phase) (x : Switch) (ns : List ReqNo) (es : List Entry) (ss : List Status) (a b c : ℕ)
     (held : Record) (t k : ℕ) (def : TaskDef) (how : How) (span : Span) (status : Option Span)
@@ -260,8 +265,8 @@ pub call_follows : (p : Program) (es : List Entry) (held : Record) (t k : ℕ) (
     → next ≡ cond (blocks how) (phase.In k) (phase_before def (k + 1)) → Follows (def_of held.program held.task) held.phase next
 call_follows p es held t k def how span status next c is =
     subst (λ (q : Phase). Follows (def_of held.program held.task) q next) (sym c.at_call)
-      (subst (λ (d : TaskDef). Follows d (phase.At k) next) (sym c.held_def)
-        (subst IsCall (sym c.is_op) tt, either_next (blocks how) def k next is))
+    (subst (λ (d : TaskDef). Follows d (phase.At k) next) (sym c.held_def)
+    (subst IsCall (sym c.is_op) tt, either_next (blocks how) def k next is))
 
 none_bound_of : (found : Option Task) → ((task : Task) → found ≡ Some task → task.bound ≡ []) → or_none (option_map (λ (z : Task). z.bound) found) ≡ []
 none_bound_of None unbound = refl
@@ -280,9 +285,9 @@ expected_now : (p : Program) (s : State) (phs : List Phase) (other : ReqNo) → 
 unfolding is_expected
 expected_now p s phs other unbound are =
     ap (λ (reqs : List ReqNo). list_any (same_request other) (reqs ++ awaited_at other.task.0 (slice_get p.tasks.items other.task.0) (phase_at s.tasks other.task.0)))
-      (none_bound s other.task.0 unbound)
+    (none_bound s other.task.0 unbound)
     ∙ ap (λ (q : Option Phase). list_any (same_request other) (awaited_at other.task.0 (slice_get p.tasks.items other.task.0) q))
-      (sym (ap (λ (z : List Phase). slice_get z other.task.0) are ∙ slice_get-map (λ (z : Task). z.phase) s.tasks other.task.0))
+    (sym (ap (λ (z : List Phase). slice_get z other.task.0) are ∙ slice_get-map (λ (z : Task). z.phase) s.tasks other.task.0))
 
 told_now_is : (p : Program) (s : State) (phs : List Phase) (found : Option ReqNo) → ((t : ℕ) (task : Task) → slice_get s.tasks t ≡ Some task → (task.named ≡ []) × (task.bound ≡ [])) → phs ≡ map (λ (z : Task). z.phase) s.tasks
     → IfSome found (λ other. is_complete p s.exchange other ≡ completes_alone p.eager (posting_of p other)) → noticed_now p phs found ≡ noticed p s.tasks s.exchange found
@@ -318,7 +323,7 @@ pub call_exchange : (p : Program) (w : ℕ) (ready : Readiness) (m : List ℤ) (
     → x'.exchange ≡ post x.program x.exchange (record { task = task_no t; nth = n }) cells → x'.exchange ≡ (post_move p (final p es) t def call.was k (blocks how)).state.exchange
 call_exchange p w ready m phs x x' ns es ss a b c held t k def how span status cells n book call nth packs posted =
     posted ∙ ap (λ (q : Program). post q x.exchange (request t n) cells) book.engine_of ∙ ap (λ (e : Exchange). post p e (request t n) cells) book.kept.exchange_is
-      ∙ ap (λ (i : ℕ). post p (final p es).exchange (request t i) cells) nth ∙ ap (post p (final p es).exchange (request t (nth_at def k))) (call_packs p es held t k def how span status cells call packs)
+    ∙ ap (λ (i : ℕ). post p (final p es).exchange (request t i) cells) nth ∙ ap (post p (final p es).exchange (request t (nth_at def k))) (call_packs p es held t k def how span status cells call packs)
 
 pub call_entry : (p : Program) (w : ℕ) (ready : Readiness) (m : List ℤ) (phs : List Phase) (x x' : Switch) (ns : List ReqNo) (es : List Entry) (ss : List Status) (a b c : ℕ)
     (held : Record) (t k : ℕ) (def : TaskDef) (how : How) (span : Span) (status : Option Span) (cells : List ℤ) (n count : ℕ)
@@ -331,8 +336,8 @@ call_entry p w ready m phs x x' ns es ss a b c held t k def how span status cell
     let after : Exchange = post p s.exchange (request t (nth_at def k)) (packed def k call.was.copy) in
     let is_after : x'.exchange ≡ after = call_exchange p w ready m phs x x' ns es ss a b c held t k def how span status cells n book call nth packs posted in
     ap (entry.Call (task_no t) k)
-      (counted ∙ ap (λ (q : Program). cond (is_complete q x'.exchange (request t n)) 0 1) (programs ∙ book.engine_of) ∙ ap (λ (e : Exchange). cond (is_complete p e (request t n)) 0 1) is_after
-        ∙ ap (λ (i : ℕ). cond (is_complete p after (request t i)) 0 1) nth ∙ sym (open_one p after (request t (nth_at def k))))
+    (counted ∙ ap (λ (q : Program). cond (is_complete q x'.exchange (request t n)) 0 1) (programs ∙ book.engine_of) ∙ ap (λ (e : Exchange). cond (is_complete p e (request t n)) 0 1) is_after
+    ∙ ap (λ (i : ℕ). cond (is_complete p after (request t i)) 0 1) nth ∙ sym (open_one p after (request t (nth_at def k))))
 
 pub call_notices : (p prog : Program) (w : ℕ) (ready : Readiness) (m : List ℤ) (phs phs' : List Phase) (x : Switch) (ns ns' : List ReqNo) (es : List Entry) (ss : List Status) (a b c : ℕ)
     (held : Record) (t k : ℕ) (def : TaskDef) (how : How) (span : Span) (status : Option Span) (cells : List ℤ) (n : ℕ) (found : Option ReqNo)
@@ -343,14 +348,14 @@ pub call_notices : (p prog : Program) (w : ℕ) (ready : Readiness) (m : List �
 call_notices p prog w ready m phs phs' x ns ns' es ss a b c held t k def how span status cells n found book call same seen nth packs is_found before told =
     let s : State = final p es in
     let of_state : found ≡ partner p s.exchange (request t (nth_at def k)) (packed def k call.was.copy) =
-        is_found ∙ ap (λ (q : Program). partner q x.exchange (request t n) cells) book.engine_of ∙ ap (λ (e : Exchange). partner p e (request t n) cells) book.kept.exchange_is
-        ∙ ap (λ (i : ℕ). partner p s.exchange (request t i) cells) nth ∙ ap (partner p s.exchange (request t (nth_at def k))) (call_packs p es held t k def how span status cells call packs) in
+    is_found ∙ ap (λ (q : Program). partner q x.exchange (request t n) cells) book.engine_of ∙ ap (λ (e : Exchange). partner p e (request t n) cells) book.kept.exchange_is
+    ∙ ap (λ (i : ℕ). partner p s.exchange (request t i) cells) nth ∙ ap (partner p s.exchange (request t (nth_at def k))) (call_packs p es held t k def how span status cells call packs) in
     let was_open : IfSome found (λ other. is_complete p s.exchange other ≡ completes_alone p.eager (posting_of p other)) =
-        subst (λ (e : Exchange). IfSome found (λ other. is_complete p e other ≡ completes_alone p.eager (posting_of p other))) book.kept.exchange_is
-          (subst (λ (q : Program). IfSome found (λ other. is_complete q x.exchange other ≡ completes_alone q.eager (posting_of q other))) book.engine_of before) in
+    subst (λ (e : Exchange). IfSome found (λ other. is_complete p e other ≡ completes_alone p.eager (posting_of p other))) book.kept.exchange_is
+    (subst (λ (q : Program). IfSome found (λ other. is_complete q x.exchange other ≡ completes_alone q.eager (posting_of q other))) book.engine_of before) in
     told ∙ ap (λ (z : List ReqNo). z ++ noticed_now prog phs' found) book.kept.notices_are ∙ ap (λ (q : Program). s.notices ++ noticed_now q phs' found) same ∙ ap (λ (z : List Phase). s.notices ++ noticed_now p z found) seen
-      ∙ ap (λ (z : List ReqNo). s.notices ++ z) (told_now_is p s phs found book.kept.orderly.unbound book.kept.phases_are was_open)
-      ∙ ap (λ (o : Option ReqNo). s.notices ++ noticed p s.tasks s.exchange o) of_state
+    ∙ ap (λ (z : List ReqNo). s.notices ++ z) (told_now_is p s phs found book.kept.orderly.unbound book.kept.phases_are was_open)
+    ∙ ap (λ (o : Option ReqNo). s.notices ++ noticed p s.tasks s.exchange o) of_state
 
 at_waits : (q : Phase) (k : ℕ) → q ≡ phase.At k → q ≡ phase.Waiting → ⊥
 at_waits q k at waiting = cc
@@ -367,24 +372,25 @@ call_invariant p prog w ready m phs phs' x x' ns ns' es es' ss a b c a' c' held 
     let s : State = final p es in
     let marks = still_held p w ready m phs x ns es ss a b c t call.was book call.is_task (ap is_released call.at) in
     book_after p w ready ready m m phs (slice_set phs t at) x x' ns ns' es es' ss ss a b c a' b c' t def call.was (posted_task def k (blocks how) call.was)
-      (post_move p s t def call.was k (blocks how)).state (post_move p s t def call.was k (blocks how)).entry book
-      (call_changes p w ready m phs x ns es ss a b c held t k def how span status book call)
-      (record {
-        handed = handed_of p w ready m phs x ns es ss a b c t call.was book call.is_task (λ e. at_waits call.was.phase k call.at e);
-        handed' = refl;
-        of_program' = refl;
-        gone' = sym (ap (slice_set ready.gone.released t) (posted_held def k (blocks how) call.was) ∙ slice_set_same ready.gone.released t false marks);
-        whole' = book.whole;
-        phases_are = ap (slice_set phs t) (stops ∙ sym (posted_phase def k (blocks how) call.was));
-        memory_is = book.kept.memory_is;
-        engine_of' = programs;
-        exchange_is = call_exchange p w ready m phs x x' ns es ss a b c held t k def how span status cells n book call nth packs posted;
-        notices_are = call_notices p prog w ready m phs phs' x ns ns' es ss a b c held t k def how span status cells n found book call same seen nth packs is_found before told;
-        entries_are = grown ∙ ap (λ (e : Entry). es ++ e ∷ []) (call_entry p w ready m phs x x' ns es ss a b c held t k def how span status cells n count book call nth packs programs posted counted);
-        statuses_are = book.kept.legal.told;
-        entry_places = more_a;
-        status_places = omega arith;
-        notice_places = more_c })
+    (post_move p s t def call.was k (blocks how)).state (post_move p s t def call.was k (blocks how)).entry book
+    (call_changes p w ready m phs x ns es ss a b c held t k def how span status book call)
+    (record {
+      handed = handed_of p w ready m phs x ns es ss a b c t call.was book call.is_task (λ e. at_waits call.was.phase k call.at e);
+      handed' = refl;
+      of_program' = refl;
+      gone' = sym (ap (slice_set ready.gone.released t) (posted_held def k (blocks how) call.was) ∙ slice_set_same ready.gone.released t false marks);
+      whole' = book.whole;
+      phases_are = ap (slice_set phs t) (stops ∙ sym (posted_phase def k (blocks how) call.was));
+      memory_is = book.kept.memory_is;
+      engine_of' = programs;
+      exchange_is = call_exchange p w ready m phs x x' ns es ss a b c held t k def how span status cells n book call nth packs posted;
+      notices_are = call_notices p prog w ready m phs phs' x ns ns' es ss a b c held t k def how span status cells n found book call same seen nth packs is_found before told;
+      entries_are = grown ∙ ap (λ (e : Entry). es ++ e ∷ []) (call_entry p w ready m phs x x' ns es ss a b c held t k def how span status cells n count book call nth packs programs posted counted);
+      statuses_are = book.kept.legal.told;
+      entry_places = more_a;
+      status_places = omega arith;
+      notice_places = more_c;
+    })
 
 stands_after_post : (def : TaskDef) (k : ℕ) (blocking : Bool) (was : Task) → StandsAs def (cond blocking (phase.In k) (phase_before def (k + 1))) was.copy (posted_task def k blocking was)
 stands_after_post def k true was = (refl, refl)
@@ -402,12 +408,12 @@ call_makes p w ready m phs x x' ns es es' ss a b c held after t k def how span s
     let s : State = final p es in
     let now : Task = posted_task def k (blocks how) call.was in
     makes_move p w es es' ss ss ready.handed ready.handed held after t def call.was now (post_move p s t def call.was k (blocks how)).state (post_move p s t def call.was k (blocks how)).entry
-      (call_changes p w ready m phs x ns es ss a b c held t k def how span status book call) call.who
-      (grown ∙ ap (λ (e : Entry). es ++ e ∷ []) (call_entry p w ready m phs x x' ns es ss a b c held t k def how span status cells n count book call nth packs programs posted counted))
-      book.kept.legal.told refl (ap (λ (z : Record). z.task) went) (ap (λ (z : Record). z.program) went ∙ call.program)
-      (subst (λ (z : Record). StandsAs def z.phase z.copy now) (sym went)
-        (subst (λ (q : Phase). StandsAs def q held.copy now) (sym is_next)
-          (subst (λ (cs : List ℤ). StandsAs def (cond (blocks how) (phase.In k) (phase_before def (k + 1))) cs now) (sym call.copy) (stands_after_post def k (blocks how) call.was)))) l view
+    (call_changes p w ready m phs x ns es ss a b c held t k def how span status book call) call.who
+    (grown ∙ ap (λ (e : Entry). es ++ e ∷ []) (call_entry p w ready m phs x x' ns es ss a b c held t k def how span status cells n count book call nth packs programs posted counted))
+    book.kept.legal.told refl (ap (λ (z : Record). z.task) went) (ap (λ (z : Record). z.program) went ∙ call.program)
+    (subst (λ (z : Record). StandsAs def z.phase z.copy now) (sym went)
+    (subst (λ (q : Phase). StandsAs def q held.copy now) (sym is_next)
+    (subst (λ (cs : List ℤ). StandsAs def (cond (blocks how) (phase.In k) (phase_before def (k + 1))) cs now) (sym call.copy) (stands_after_post def k (blocks how) call.was)))) l view
 
 pub call_pending : (p prog : Program) (w : ℕ) (ready : Readiness) (m : List ℤ) (phs : List Phase) (x x' : Switch) (ns : List ReqNo) (es : List Entry) (ss : List Status) (a b c : ℕ)
     (held : Record) (t k : ℕ) (def : TaskDef) (how : How) (span : Span) (status : Option Span) (cells : List ℤ) (n count : ℕ)
@@ -419,11 +425,11 @@ pub call_pending : (p prog : Program) (w : ℕ) (ready : Readiness) (m : List �
 call_pending p prog w ready m phs x x' ns es ss a b c held t k def how span status cells n count book call same nth packs programs posted counted l view =
     let made = call_changes p w ready m phs x ns es ss a b c held t k def how span status book call in
     let own : LeavesPending (move p (final p es) held.task).entry count =
-        subst (λ (e : Entry). LeavesPending e count)
-          (call_entry p w ready m phs x x' ns es ss a b c held t k def how span status cells n count book call nth packs programs posted counted
-            ∙ sym (ap (λ (z : Moved). z.entry) (ap (move p (final p es)) (sym call.who) ∙ made.moved))) refl in
+    subst (λ (e : Entry). LeavesPending e count)
+    (call_entry p w ready m phs x x' ns es ss a b c held t k def how span status cells n count book call nth packs programs posted counted
+    ∙ sym (ap (λ (z : Moved). z.entry) (ap (move p (final p es)) (sym call.who) ∙ made.moved))) refl in
     subst (λ (q : Program). LeavesPending (move q (final q l.history) held.task).entry count) (sym same)
-      (subst (λ (h : List Entry). LeavesPending (move p (final p h) held.task).entry count) (ap (λ (z : Ledger). z.history) view) own)
+    (subst (λ (h : List Entry). LeavesPending (move p (final p h) held.task).entry count) (ap (λ (z : Ledger). z.history) view) own)
 
 few_of_found : (p : Program) → WellFormed p → (t : ℕ) (found : Option TaskDef) → slice_get p.tasks.items t ≡ found → length (unwrap_or found no_task).body.items < 2 ^ 32
 few_of_found p well t None is = lit< tt

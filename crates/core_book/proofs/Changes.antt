@@ -1,6 +1,6 @@
 -- What each kind of move of a task changes.
-use Rattle.std.proofs.Common.{◌≡◌, ◌≢◌, ℕ, zero, suc, ◌+◌, ◌-◌, ◌*◌, ◌<◌, ◌≤◌, Bool, true, false, ◌&&◌, ◌||◌, not, ◌⊎◌, List, [], ◌∷◌, ◌++◌, length, take, drop, slice_get, slice_set, get_or, Some, None, Option, refl, sym, ap, ◌∙◌, subst, inl, inr, cond, arith, rules}
-use Rattle.std.specs.Prelude.{ℤ, count_by, ◌==◌}
+use Rattle.std.proofs.Common.{◌≡◌, ◌≢◌, ℕ, ◌+◌, ◌-◌, ◌*◌, ◌<◌, ◌≤◌, Bool, true, false, ◌&&◌, ◌||◌, not, ◌⊎◌, List, [], ◌∷◌, ◌++◌, length, drop, slice_get, slice_set, Some, None, Option, refl, sym, ap, ◌∙◌, inl, inr, cond, arith}
+use Rattle.std.specs.Prelude.{ℤ, ◌==◌}
 use Rattle.std.specs.List.{list_any}
 use Rattle.std.proofs.lemmas.List.{length-append, length-drop}
 use Rattle.std.proofs.lemmas.List.Sums.{count_by_more_yes}
@@ -15,9 +15,7 @@ use Rattle.rt_base.specs.declared.data.TagSel.{TagSel}
 use Rattle.rt_base.specs.declared.data.How.{How}
 use Rattle.rt_base.specs.declared.data.Op.{Op}
 use Rattle.rt_base.specs.declared.data.Op.TheVariants as op
-use Rattle.rt_base.specs.declared.data.Phase.{Phase}
 use Rattle.rt_base.specs.declared.data.Phase.TheVariants as phase
-use Rattle.rt_base.specs.declared.data.Entry.{Entry}
 use Rattle.rt_base.specs.declared.data.Entry.TheVariants as entry
 use Rattle.rt_base.specs.declared.data.TaskDef.{TaskDef}
 use Rattle.rt_base.specs.declared.data.Program.{Program}
@@ -32,8 +30,7 @@ use Rattle.task_local.specs.Regions.{saved, loaded}
 use Rattle.task_local.specs.Local.{advanced, stop}
 use Rattle.task_local.specs.Packed.{packed}
 use Rattle.task_local.specs.Waits.{told, taken}
-use Rattle.core_book.specs.Machine.{move, start_move, return_move, release_move, leave_move, post_move, call_move, posted_task, noticed, open_count, is_expected}
-use Rattle.core_book.specs.Legal.{final, caller}
+use Rattle.core_book.specs.Machine.{start_move, return_move, release_move, leave_move, post_move, call_move, posted_task, noticed, is_expected}
 use Rattle.core_book.specs.Kept.{moves_left, posted_by_phase, IsOrderly}
 use Rattle.core_book.proofs.Rows.{move-row}
 use Rattle.core_book.proofs.Stops.{posted_by-stop, left_at_stop, stop_started}
@@ -71,7 +68,8 @@ start_changes p s t def was is_def is_task waiting may kept = record {
   later = rw waiting (omega arith);
   posted = λ u n posted. inl posted;
   told = omega arith;
-  noticed = omega arith }
+  noticed = omega arith;
+}
 
 pub return_changes : (p : Program) (s : State) (t : ℕ) (def : TaskDef) (was : Task) → slice_get p.tasks.items t ≡ Some def → slice_get s.tasks t ≡ Some was → was.phase ≡ phase.Ended
     → MayMove p s t → IsOrderly p s
@@ -90,7 +88,8 @@ return_changes p s t def was is_def is_task ended may kept = record {
   later = rw ended (omega arith);
   posted = λ u n posted. inl posted;
   told = omega arith;
-  noticed = omega arith }
+  noticed = omega arith;
+}
 
 append_nil : {X : Type 0} (xs : List X) → xs ++ [] ≡ xs
 append_nil [] = refl
@@ -104,7 +103,7 @@ bare_release p s t def was nothing = rw (nothing, append_nil s.statuses) refl
 pub release_changes : (p : Program) (s : State) (t : ℕ) (def : TaskDef) (was : Task) → slice_get p.tasks.items t ≡ Some def → slice_get s.tasks t ≡ Some was → was.phase ≡ phase.Returned
     → MayMove p s t → IsOrderly p s → length (saved p def was.copy s.memory) ≡ memory_len p
     → Changes p s t def was (record was { phase = phase.Released }) (record s { memory = saved p def was.copy s.memory; tasks = slice_set s.tasks t (record was { phase = phase.Released }) })
-        (entry.Release (task_no t) (length s.statuses) 0)
+    (entry.Release (task_no t) (length s.statuses) 0)
 release_changes p s t def was is_def is_task returned may kept cells =
     let nothing = (kept.unbound t was is_task).0 in
     record {
@@ -121,7 +120,8 @@ release_changes p s t def was is_def is_task returned may kept cells =
       later = rw returned (omega arith);
       posted = λ u n posted. inl posted;
       told = omega arith;
-      noticed = omega arith }
+      noticed = omega arith;
+    }
 
 or_false : (b : Bool) → (b || false) ≡ b
 or_false true = refl
@@ -149,7 +149,7 @@ nth_at-suc : (def : TaskDef) (k : ℕ) (how : How) (span : Span) (peer : Peer) (
 nth_at-suc def k how span peer tag comm status here =
     let posting : Op = op.Post how span peer tag comm status in
     count_by_more_yes is_posting def.body.items k posting (slice_get_within def.body.items k posting here)
-        (ap is_posting (get_or_from_slice_get def.body.items k posting posting here))
+    (ap is_posting (get_or_from_slice_get def.body.items k posting posting here))
 
 -- one request more is posted
 posted_after_post : (p : Program) (e : Exchange) (req other : ReqNo) (cells : List ℤ) → is_posted (post p e req cells) other ≡ (is_posted e other || same_request other req)
@@ -173,13 +173,15 @@ posted_leaves def k was true within more = record {
   bound = refl;
   started = λ e. cc;
   fewer = omega arith;
-  count = more }
+  count = more;
+}
 posted_leaves def k was false within more = record {
   named = refl;
   bound = refl;
   started = stop_is_started def (k + 1);
   fewer = fewer_by_one (length def.body.items) k _ within (left_by_stop def (k + 1) (omega arith));
-  count = posted_by-stop def (k + 1) (omega arith) ∙ more }
+  count = posted_by-stop def (k + 1) (omega arith) ∙ more;
+}
 
 -- at most one notice
 one_notice : (p : Program) (tasks : List Task) (e : Exchange) (other : Option ReqNo) → length (noticed p tasks e other) ≤ 1
@@ -216,10 +218,12 @@ post_changes p s t def was k how span peer tag comm status is_def is_task at is_
       fewer = let before : moves_left (length def.body.items) was.phase ≡ 2 * (length def.body.items - k) + 2 = ap (moves_left (length def.body.items)) at in omega (arith, leaves.fewer);
       later = let before : posted_by_phase def was.phase ≡ nth_at def k = ap (posted_by_phase def) at in omega (arith, leaves.count);
       posted = λ u n posted. elim (by_this_posting t u n (nth_at def k) (is_posted s.exchange (request u n)) (sym (posted_after_post p s.exchange req (request u n) cells) ∙ posted)) [
-          inl before ↦ inl before
-        | inr mine ↦ inr (mine.0, below_count n (nth_at def k) _ mine.1 leaves.count) ];
+        | inl before ↦ inl before
+        | inr mine ↦ inr (mine.0, below_count n (nth_at def k) _ mine.1 leaves.count)
+      ];
       told = omega arith;
-      noticed = noticed_more s.notices _ (one_notice p s.tasks s.exchange (partner p s.exchange req cells)) }
+      noticed = noticed_more s.notices _ (one_notice p s.tasks s.exchange (partner p s.exchange req cells));
+    }
 
 -- a posting that was left tells at most one status
 told_once : (p : Program) (e : Exchange) (t : ℕ) (def : TaskDef) (k : ℕ) (how : How) (span : Span) (peer : Peer) (tag : TagSel) (comm : ℕ) (status : Option Span)
@@ -247,4 +251,5 @@ leave_changes p s t def was k how span peer tag comm status is_def is_task in_k 
       later = rw (in_k, posted_by-stop def (k + 1) (omega arith)) (omega arith);
       posted = λ u n posted. inl posted;
       told = statuses_more s.statuses _ (told_once p s.exchange t def k how span peer tag comm status is_op);
-      noticed = omega arith }
+      noticed = omega arith;
+    }

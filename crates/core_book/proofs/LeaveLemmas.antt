@@ -92,7 +92,8 @@ inside p prog es held t k def found same ask posting who is_def is place =
       in_k = stands_in.0;
       copies = stands_in.1;
       may = subst (MayMove p (final p es)) (sym who) ask.may;
-      blocking = subst (λ (d : TaskDef). IsBlocking (slice_get d.body.items k)) held_def blocked.1 }
+      blocking = subst (λ (d : TaskDef). IsBlocking (slice_get d.body.items k)) held_def blocked.1;
+    }
 
 -- the same, as it is asked of the book
 pub asked_inside : (l : Ledger) (p prog : Program) (w : ℕ) (es : List Entry) (ss : List Status) (handed : List Bool) (held : Record) (t k : ℕ) (def : TaskDef) (found : At)
@@ -154,8 +155,8 @@ complete_in p s held t k def kind span status here posts =
     let one_def : may.def ≡ def = same_Some may.def def (sym may.is_def ∙ here.is_def) in
     let one_task : may.task ≡ was = same_Some may.task was (sym may.is_task ∙ here.is_task) in
     let enabled : AreComplete p s.exchange (awaited t def k) = subst (MayMoveAt p s.tasks s.exchange t def was) here.in_k
-        (subst (λ (z : Task). MayMoveAt p s.tasks s.exchange t def z z.phase) one_task
-            (subst (λ (d : TaskDef). MayMoveAt p s.tasks s.exchange t d may.task may.task.phase) one_def may.enabled)) in
+    (subst (λ (z : Task). MayMoveAt p s.tasks s.exchange t def z z.phase) one_task
+    (subst (λ (d : TaskDef). MayMoveAt p s.tasks s.exchange t d may.task may.task.phase) one_def may.enabled)) in
     let all : AreComplete p s.exchange (req ∷ []) = subst (AreComplete p s.exchange) listed enabled in
     all.0
 
@@ -181,15 +182,18 @@ cells_fit p e req kind span status posts = few_by (match_with e.matches req) (po
 posts_request : (p : Program) (t k : ℕ) (def : TaskDef) (kind : How) (span : Span) (status : Option Span) → slice_get p.tasks.items t ≡ Some def → PostsAs (slice_get def.body.items k) kind span status
     → PostsAs (posting_of p (request t (nth_at def k))) kind span status
 posts_request p t k def kind span status is_def posts = record {
-  peer = posts.peer; tag = posts.tag; comm = posts.comm;
-  is = posting_is p t k def (op.Post kind span posts.peer posts.tag posts.comm status) is_def posts.is refl }
+  peer = posts.peer;
+  tag = posts.tag;
+  comm = posts.comm;
+  is = posting_is p t k def (op.Post kind span posts.peer posts.tag posts.comm status) is_def posts.is refl;
+}
 
 pub received_fit : (p : Program) (s : State) (x : Switch) (held : Record) (t k n : ℕ) (def : TaskDef) (kind : How) (span : Span) (status : Option Span) (cells : List ℤ) → Inside p s held t k def
     → PostsAs (slice_get def.body.items k) kind span status → n ≡ nth_at def k → x.program ≡ p → cells ≡ request_cells x.program x.exchange (request t n) → length cells ≤ span_len span
 received_fit p s x held t k n def kind span status cells here posts nth programs received =
     subst (λ (z : List ℤ). length z ≤ span_len span)
-      (sym (received ∙ ap (λ (z : Program). request_cells z x.exchange (request t n)) programs ∙ ap (λ (m : ℕ). request_cells p x.exchange (request t m)) nth))
-      (cells_fit p x.exchange (request t (nth_at def k)) kind span status (posts_request p t k def kind span status here.is_def posts))
+    (sym (received ∙ ap (λ (z : Program). request_cells z x.exchange (request t n)) programs ∙ ap (λ (m : ℕ). request_cells p x.exchange (request t m)) nth))
+    (cells_fit p x.exchange (request t (nth_at def k)) kind span status (posts_request p t k def kind span status here.is_def posts))
 
 -- what a well-formed program says of the posting
 all_at : {X : Type 0} (P : X → Type 0) (xs : List X) (k : ℕ) (x : X) → All P xs → slice_get xs k ≡ Some x → P x
@@ -200,7 +204,7 @@ posting_allowed : (p : Program) (t k : ℕ) (def : TaskDef) (kind : How) (span :
 posting_allowed p t k def kind span status well is_def posts =
     let task : IsTask p def = all_at (IsTask p) p.tasks.items t def well.tasks is_def in
     let allowed : IsOperation p def (op.Post kind span posts.peer posts.tag posts.comm status) =
-        all_at (IsOperation p def) def.body.items k (op.Post kind span posts.peer posts.tag posts.comm status) task.body posts.is in
+    all_at (IsOperation p def) def.body.items k (op.Post kind span posts.peer posts.tag posts.comm status) task.body posts.is in
     allowed.0
 
 span_declared : (p : Program) (def : TaskDef) (kind : How) (span : Span) (whom : Peer) (selected : TagSel) (status : Option Span) → IsPostingOf p def kind span whom selected status → IsDeclared def.accesses.items span
@@ -243,7 +247,7 @@ pub stores : (p : Program) (s : State) (held : Record) (t k : ℕ) (def : TaskDe
     → PostsAs (slice_get def.body.items k) kind span status → IsDeclared (def_of held.program held.task).accesses.items span
 stores p s held t k def kind span status well here posts =
     subst (λ (d : TaskDef). IsDeclared d.accesses.items span) (sym here.held_def)
-      (span_declared p def kind span posts.peer posts.tag status (posting_allowed p t k def kind span status well here.is_def posts))
+    (span_declared p def kind span posts.peer posts.tag status (posting_allowed p t k def kind span status well here.is_def posts))
 
 pub status_received : (p : Program) (s : State) (held : Record) (t k : ℕ) (def : TaskDef) (kind : How) (span : Span) (status : Option Span) → WellFormed p → Inside p s held t k def
     → PostsAs (slice_get def.body.items k) kind span status → IsSome status → is_receive kind ≡ true
@@ -259,7 +263,7 @@ pub status_declared : (p : Program) (s : State) (held stored : Record) (t k : �
     → IfSome status (λ (span : Span). IsDeclared (def_of stored.program stored.task).accesses.items span × (span_len span ≡ 4))
 status_declared p s held stored t k def kind span status copy well here posts went =
     subst (λ (d : TaskDef). IfSome status (λ (span : Span). IsDeclared d.accesses.items span × (span_len span ≡ 4))) (sym (stored_def held stored def copy here.held_def went))
-      (has_status p def kind span posts.peer posts.tag status (posting_allowed p t k def kind span status well here.is_def posts)).declared
+    (has_status p def kind span posts.peer posts.tag status (posting_allowed p t k def kind span status well here.is_def posts)).declared
 
 in_waits : (stands : Phase) (k : ℕ) → stands ≡ phase.In k → stands ≡ phase.Waiting → ⊥
 in_waits stands k inside waiting = cc
@@ -280,7 +284,7 @@ goes_on p s held stored put_both t k def copy copy' next here went went' is =
     let whole : put_both ≡ record held { copy = copy' } = went' ∙ ap (λ (z : Record). record z { copy = copy' }) went in
     let follows : Follows (def_of held.program held.task) (phase.In k) next = is ∙ ap (λ (d : TaskDef). phase_before d (k + 1)) (sym here.held_def) in
     subst (λ (z : Record). Follows (def_of z.program z.task) z.phase next) (sym whole)
-      (subst (λ (q : Phase). Follows (def_of held.program held.task) q next) (sym here.place) follows)
+    (subst (λ (q : Phase). Follows (def_of held.program held.task) q next) (sym here.place) follows)
 
 -- what the posting tells, and what is stored
 told_is : (p : Program) (e : Exchange) (t k : ℕ) (def : TaskDef) (kind : How) (span : Span) (status : Option Span) → PostsAs (slice_get def.body.items k) kind span status
@@ -296,7 +300,7 @@ taken_is p e t k def kind span status copy posts =
     let posting : Op = op.Post kind span posts.peer posts.tag posts.comm status in
     let among : slice_get (filter is_posting def.body.items) (nth_at def k) ≡ Some posting = among_postings def.body.items k posting posts.is refl in
     let stored : put_at_posting def (slice_get (filter is_posting def.body.items) (nth_at def k)) (request_cells p e req) copy ≡ put def span (request_cells p e req) copy =
-        ap (λ (o : Option Op). put_at_posting def o (request_cells p e req) copy) among in
+    ap (λ (o : Option Op). put_at_posting def o (request_cells p e req) copy) among in
     rw (told_is p e t k def kind span status posts, posts.is) (ap (put_statuses def status (told_now p e req kind)) stored)
 
 told_here : (p : Program) (e : Exchange) (x : Switch) (t k n : ℕ) (def : TaskDef) (kind : How) (span : Span) (status : Option Span) → PostsAs (slice_get def.body.items k) kind span status
@@ -339,23 +343,24 @@ leave_invariant p w ready m phs x ns es es' ss ss' a b c a' b' held t k n def ki
     let same = told_here p s.exchange x t k n def kind span status posts leaves.nth book.engine_of book.kept.exchange_is in
     let marks = still_held p w ready m phs x ns es ss a b c t was book here.is_task (ap is_released here.in_k) in
     book_after p w ready ready m m phs (slice_set phs t next) x x ns ns es es' ss ss' a b c a' b' c t def was now (leave_move p s t def was k).state (leave_move p s t def was k).entry book
-      (leave_changes p s t def was k kind span posts.peer posts.tag posts.comm status here.is_def here.is_task here.in_k posts.is here.may book.kept.orderly)
-      (record {
-        handed = handed_of p w ready m phs x ns es ss a b c t was book here.is_task (λ e. in_waits was.phase k here.in_k e);
-        handed' = refl;
-        of_program' = refl;
-        gone' = sym (ap (slice_set ready.gone.released t) (stop_is_held def (k + 1)) ∙ slice_set_same ready.gone.released t false marks);
-        whole' = book.whole;
-        phases_are = ap (slice_set phs t) stops;
-        memory_is = book.kept.memory_is;
-        engine_of' = refl;
-        exchange_is = book.kept.exchange_is;
-        notices_are = book.kept.notices_are;
-        entries_are = entry_is s es es' ss t k from count _ _ book.kept.legal.told leaves.from_is leaves.count_is same leaves.entries;
-        statuses_are = statuses_are s ss ss' _ _ book.kept.legal.told same leaves.statuses;
-        entry_places = more;
-        status_places = more';
-        notice_places = omega arith })
+    (leave_changes p s t def was k kind span posts.peer posts.tag posts.comm status here.is_def here.is_task here.in_k posts.is here.may book.kept.orderly)
+    (record {
+      handed = handed_of p w ready m phs x ns es ss a b c t was book here.is_task (λ e. in_waits was.phase k here.in_k e);
+      handed' = refl;
+      of_program' = refl;
+      gone' = sym (ap (slice_set ready.gone.released t) (stop_is_held def (k + 1)) ∙ slice_set_same ready.gone.released t false marks);
+      whole' = book.whole;
+      phases_are = ap (slice_set phs t) stops;
+      memory_is = book.kept.memory_is;
+      engine_of' = refl;
+      exchange_is = book.kept.exchange_is;
+      notices_are = book.kept.notices_are;
+      entries_are = entry_is s es es' ss t k from count _ _ book.kept.legal.told leaves.from_is leaves.count_is same leaves.entries;
+      statuses_are = statuses_are s ss ss' _ _ book.kept.legal.told same leaves.statuses;
+      entry_places = more;
+      status_places = more';
+      notice_places = omega arith;
+    })
 
 -- the copy after both stores
 copy_taken : (p : Program) (s : State) (x : Switch) (held stored : Record) (t k n : ℕ) (def : TaskDef) (kind : How) (span : Span) (status : Option Span) (cells : List ℤ) (copy' : List ℤ)
@@ -366,10 +371,10 @@ copy_taken p s x held stored t k n def kind span status cells copy' here posts n
     let tells : List Status = told_now x.program x.exchange (request t n) kind in
     let after = stored_def held stored def (put (def_of held.program held.task) span cells held.copy) here.held_def went in
     let first : stored.copy ≡ put def span (request_cells p s.exchange (request t (nth_at def k))) here.was.copy =
-        ap (λ (z : Record). z.copy) went ∙ ap (λ (d : TaskDef). put d span cells held.copy) here.held_def ∙ ap (put def span cells) here.copies
-        ∙ ap (λ (z : List ℤ). put def span z here.was.copy) (received ∙ cells_here p s.exchange x t n (nth_at def k) nth programs exchanges) in
+    ap (λ (z : Record). z.copy) went ∙ ap (λ (d : TaskDef). put d span cells held.copy) here.held_def ∙ ap (put def span cells) here.copies
+    ∙ ap (λ (z : List ℤ). put def span z here.was.copy) (received ∙ cells_here p s.exchange x t n (nth_at def k) nth programs exchanges) in
     let same : tells ≡ told_now p s.exchange (request t (nth_at def k)) kind =
-        told_here p s.exchange x t k n def kind span status posts nth programs exchanges ∙ told_is p s.exchange t k def kind span status posts in
+    told_here p s.exchange x t k n def kind span status posts nth programs exchanges ∙ told_is p s.exchange t k def kind span status posts in
     is ∙ ap (λ (d : TaskDef). put_statuses d status tells stored.copy) after ∙ ap (put_statuses def status tells) first
     ∙ ap (λ (z : List Status). put_statuses def status z (put def span (request_cells p s.exchange (request t (nth_at def k))) here.was.copy)) same
     ∙ sym (taken_is p s.exchange t k def kind span status here.was.copy posts)
@@ -390,16 +395,16 @@ leave_makes p w ready m phs x ns es es' ss ss' a b c held stored put_both after 
     let same = told_here p s.exchange x t k n def kind span status posts leaves.nth book.engine_of book.kept.exchange_is in
     let both : List ℤ = put_statuses (def_of stored.program stored.task) status (told_now x.program x.exchange (request t n) kind) stored.copy in
     let copied : both ≡ taken p s.exchange t def k was.copy =
-        copy_taken p s x held stored t k n def kind span status cells both here posts leaves.nth book.engine_of book.kept.exchange_is received went refl in
+    copy_taken p s x held stored t k n def kind span status cells both here posts leaves.nth book.engine_of book.kept.exchange_is received went refl in
     let whole : after ≡ record held { copy = taken p s.exchange t def k was.copy; phase = phase_before def (k + 1) } =
-        goes ∙ ap (λ (z : Record). record z { phase = next }) (went' ∙ ap (λ (z : Record). record z { copy = both }) went)
-        ∙ ap (λ (q : Phase). record held { copy = both; phase = q }) is
-        ∙ ap (λ (z : List ℤ). record held { copy = z; phase = phase_before def (k + 1) }) copied in
+    goes ∙ ap (λ (z : Record). record z { phase = next }) (went' ∙ ap (λ (z : Record). record z { copy = both }) went)
+    ∙ ap (λ (q : Phase). record held { copy = both; phase = q }) is
+    ∙ ap (λ (z : List ℤ). record held { copy = z; phase = phase_before def (k + 1) }) copied in
     makes_move p w es es' ss ss' ready.handed ready.handed held after t def was now (leave_move p s t def was k).state (leave_move p s t def was k).entry
-      (leave_changes p s t def was k kind span posts.peer posts.tag posts.comm status here.is_def here.is_task here.in_k posts.is here.may book.kept.orderly)
-      here.who (entry_is s es es' ss t k from count _ _ book.kept.legal.told leaves.from_is leaves.count_is same leaves.entries)
-      (statuses_are s ss ss' _ _ book.kept.legal.told same leaves.statuses) refl (ap (λ (z : Record). z.task) whole) (ap (λ (z : Record). z.program) whole ∙ here.programs)
-      (subst (λ (z : Record). StandsAs def z.phase z.copy now) (sym whole) (stands_before def (k + 1) (taken p s.exchange t def k was.copy) now refl refl)) l view
+    (leave_changes p s t def was k kind span posts.peer posts.tag posts.comm status here.is_def here.is_task here.in_k posts.is here.may book.kept.orderly)
+    here.who (entry_is s es es' ss t k from count _ _ book.kept.legal.told leaves.from_is leaves.count_is same leaves.entries)
+    (statuses_are s ss ss' _ _ book.kept.legal.told same leaves.statuses) refl (ap (λ (z : Record). z.task) whole) (ap (λ (z : Record). z.program) whole ∙ here.programs)
+    (subst (λ (z : Record). StandsAs def z.phase z.copy now) (sym whole) (stands_before def (k + 1) (taken p s.exchange t def k was.copy) now refl refl)) l view
 
 -- room for the entry and for the status
 pub room_at_leave : (p : Program) (w : ℕ) (ready : Readiness) (m : List ℤ) (phs : List Phase) (x : Switch) (ns : List ReqNo) (es : List Entry) (ss : List Status) (a b c : ℕ) (held : Record) (t k : ℕ) (def : TaskDef)

@@ -1,8 +1,7 @@
 -- A new book keeps the opening state.
-use Rattle.std.proofs.Common.{◌≡◌, ◌≢◌, ℕ, zero, suc, ◌+◌, ◌<◌, ◌≤◌, Bool, true, false, List, [], ◌∷◌, length, map, slice_get, Some, None, replicate, refl, sym, ap, ◌∙◌, arith, rules}
-use Rattle.std.specs.Prelude.{ℤ, pos}
+use Rattle.std.proofs.Common.{◌≡◌, ℕ, zero, suc, ◌≤◌, Bool, false, List, [], ◌∷◌, length, map, slice_get, Some, replicate, refl, sym, ap, ◌∙◌, arith}
+use Rattle.std.specs.Prelude.{pos}
 use Rattle.std.proofs.lemmas.List.{length-replicate}
-use Rattle.rt_base.specs.declared.data.Phase.{Phase}
 use Rattle.rt_base.specs.declared.data.Phase.TheVariants as phase
 use Rattle.rt_base.specs.declared.data.Program.{Program}
 use Rattle.rt_base.specs.Layout.{memory_len}
@@ -10,7 +9,6 @@ use Rattle.rt_base.specs.Precedes.{LetGo}
 use Rattle.rt_base.specs.Exchange.{silent}
 use Rattle.rt_base.specs.State.{Task, waiting_task, opening}
 use Rattle.rt_base.specs.WellFormed.{WellFormed}
-use Rattle.core_book.specs.Legal.{IsLegal, final}
 use Rattle.core_book.specs.Kept.{all_left, most_moves, IsOrderly, IsKept}
 
 -- what stands in a list of equal items
@@ -28,7 +26,8 @@ opening_orderly p = record {
   counted = length-replicate (length p.tasks.items) waiting_task;
   cells = length-replicate (memory_len p) (pos 0);
   unbound = λ t task here. (ap (λ (x : Task). x.named) (in_replicate (length p.tasks.items) waiting_task t task here), ap (λ (x : Task). x.bound) (in_replicate (length p.tasks.items) waiting_task t task here));
-  posted = λ t n def task is_def is_task posted. absurd (cc) }
+  posted = λ t n def task is_def is_task posted. absurd (cc);
+}
 
 -- the fields of a new book are the opening state
 pub kept_at_opening : (p : Program) (workers : ℕ) (gone : LetGo) (handed : List Bool) (entry_places status_places notice_places : ℕ) → WellFormed p
@@ -51,4 +50,5 @@ kept_at_opening p workers gone handed entry_places status_places notice_places w
   few_statuses = omega arith;
   entry_room = omega arith;
   status_room = omega arith;
-  notice_room = omega arith }
+  notice_room = omega arith;
+}

@@ -1,5 +1,5 @@
 -- What is known of the record of the task that a turn picks.
-use Rattle.std.proofs.Common.{◌≡◌, ◌≢◌, ℕ, ◌<◌, Bool, true, false, List, length, slice_get, slice_set, get_or, Option, Some, refl, sym, ap, ◌∙◌, subst, arith, rules}
+use Rattle.std.proofs.Common.{◌≡◌, ◌≢◌, ℕ, ◌<◌, Bool, true, false, List, length, slice_get, slice_set, get_or, Some, refl, sym, ap, ◌∙◌, subst, arith}
 use Rattle.std.proofs.lemmas.Option.{slice_get_within, slice_get-get_or}
 use Rattle.rt_base.specs.declared.data.Phase.{Phase}
 use Rattle.rt_base.specs.declared.data.Phase.TheVariants as phase
@@ -8,11 +8,11 @@ use Rattle.rt_base.specs.declared.data.Program.{Program}
 use Rattle.rt_base.specs.Precedes.{MayStart}
 use Rattle.rt_base.specs.State.{State, Task, let_go}
 use Rattle.rt_base.specs.MayMove.{MayMove, MayMoveAt}
-use Rattle.task_local.specs.StandsFor.{Record, StandsFor, StandsAs}
+use Rattle.task_local.specs.StandsFor.{Record, StandsAs}
 use Rattle.core_book.specs.Legal.{final, IsQuiet}
 use Rattle.core_book.specs.Ledger.{Ledger, MakesMove, IsReady}
 use Rattle.core_book.specs.Plain.{IsPlain}
-use Rattle.core_book.specs.Turns.{is_started, IsInLine, AreInLine, GoesOn, EndsTurn}
+use Rattle.core_book.specs.Turns.{is_started, IsInLine, AreInLine, GoesOn}
 use Rattle.core_book.proofs.Lists.{slice_get-set_same, slice_get-set_other}
 use Rattle.core_book.proofs.Lines.{goes_on}
 

@@ -1,6 +1,6 @@
 -- What a book answers of its tasks, in terms of its fields.
-use Rattle.std.proofs.Common.{◌≡◌, ◌≢◌, ℕ, zero, suc, ◌+◌, ◌<◌, ◌≤◌, ◌↔◌, Bool, true, false, ◌||◌, not, cond, List, [], ◌∷◌, length, map, slice_get, get_or, Some, None, Option, IsTrue, refl, sym, ap, ◌∙◌, subst, All, below_more, inl, inr, arith, rules}
-use Rattle.std.specs.Prelude.{ℤ, option_map, ⊤, ◌==◌, ◌&&◌}
+use Rattle.std.proofs.Common.{◌≡◌, ℕ, ◌+◌, ◌<◌, ◌≤◌, ◌↔◌, Bool, true, false, ◌||◌, not, cond, List, [], ◌∷◌, length, map, slice_get, get_or, Some, None, Option, IsTrue, refl, sym, ap, ◌∙◌, subst, All, below_more, arith}
+use Rattle.std.specs.Prelude.{ℤ, option_map, ◌==◌, ◌&&◌}
 use Rattle.std.specs.List.{list_any}
 use Rattle.std.proofs.lemmas.Bool.Decides.{nat_tests}
 use Rattle.std.proofs.lemmas.Option.{slice_get_within, slice_get_read, slice_get-get_or, slice_get_past}
@@ -11,13 +11,11 @@ use Rattle.rt_base.specs.declared.data.ReqNo.{ReqNo}
 use Rattle.rt_base.specs.declared.data.Phase.{Phase}
 use Rattle.rt_base.specs.declared.data.Phase.TheVariants as phase
 use Rattle.rt_base.specs.declared.data.Status.{Status}
-use Rattle.rt_base.specs.declared.data.Handle.{Handle}
 use Rattle.rt_base.specs.declared.data.Op.{Op}
-use Rattle.rt_base.specs.declared.data.Op.TheVariants as op
 use Rattle.rt_base.specs.declared.data.Entry.{Entry}
 use Rattle.rt_base.specs.declared.data.TaskDef.{TaskDef}
 use Rattle.rt_base.specs.declared.data.Program.{Program}
-use Rattle.rt_base.specs.Operations.{awaited, awaited_by, nth_at, request, named_requests, blocks}
+use Rattle.rt_base.specs.Operations.{awaited, awaited_by, nth_at, request}
 use Rattle.rt_base.specs.Matching.{same_request}
 use Rattle.rt_base.specs.Precedes.{LetGo, MayStart}
 use Rattle.rt_base.specs.Exchange.{Exchange}
@@ -74,22 +72,27 @@ pub standing : (p : Program) (w : ℕ) (ready : Readiness) (m : List ℤ) (phs :
     → IsBook p w ready m phs x ns es ss a b c → slice_get phs t ≡ Some at → Standing (final p es) t at
 standing p w ready m phs x ns es ss a b c t at book here =
     let found = standing_of (slice_get (final p es).tasks t) at
-        (sym (slice_get-map (λ (z : Task). z.phase) (final p es).tasks t) ∙ ap (λ (z : List Phase). slice_get z t) (sym book.kept.phases_are) ∙ here) in
+    (sym (slice_get-map (λ (z : Task). z.phase) (final p es).tasks t) ∙ ap (λ (z : List Phase). slice_get z t) (sym book.kept.phases_are) ∙ here) in
     record { task = found.0; is_task = found.1; stands = found.2 }
 
 -- a task may move exactly as its phase says
 pub may_move_is : (p : Program) (s : State) (t : ℕ) (def : TaskDef) (at : Phase) (here : Standing s t at) → slice_get p.tasks.items t ≡ Some def → (result : Bool)
     → (IsTrue result ↔ MayMoveAt p s.tasks s.exchange t def here.task at) → IsTrue result ↔ MayMove p s t
-may_move_is p s t def at here is_def result answer =
-    (λ yes. record {
-        def = def; task = here.task; is_def = is_def; is_task = here.is_task;
-        enabled = subst (MayMoveAt p s.tasks s.exchange t def here.task) (sym here.stands) (answer.0 yes) },
-     λ may.
-        let one_def : may.def ≡ def = same_item (sym may.is_def ∙ is_def) in
-        let one_task : may.task ≡ here.task = same_item (sym may.is_task ∙ here.is_task) in
-        answer.1 (subst (λ (q : Phase). MayMoveAt p s.tasks s.exchange t def here.task q) here.stands
-            (subst (λ (z : Task). MayMoveAt p s.tasks s.exchange t def z z.phase) one_task
-                (subst (λ (d : TaskDef). MayMoveAt p s.tasks s.exchange t d may.task may.task.phase) one_def may.enabled))))
+may_move_is p s t def at here is_def result answer = (
+  λ yes. record {
+    def = def;
+    task = here.task;
+    is_def = is_def;
+    is_task = here.is_task;
+    enabled = subst (MayMoveAt p s.tasks s.exchange t def here.task) (sym here.stands) (answer.0 yes);
+  },
+  λ may.
+      let one_def : may.def ≡ def = same_item (sym may.is_def ∙ is_def) in
+      let one_task : may.task ≡ here.task = same_item (sym may.is_task ∙ here.is_task) in
+      answer.1 (subst (λ (q : Phase). MayMoveAt p s.tasks s.exchange t def here.task q) here.stands
+      (subst (λ (z : Task). MayMoveAt p s.tasks s.exchange t def z z.phase) one_task
+      (subst (λ (d : TaskDef). MayMoveAt p s.tasks s.exchange t d may.task may.task.phase) one_def may.enabled))),
+)
 
 -- the answer in the caller's terms
 pub answers_for : (l : Ledger) (p prog : Program) (w : ℕ) (es : List Entry) (ss : List Status) (handed : List Bool) (t : ℕ) (result : Bool)
@@ -104,7 +107,7 @@ pub waiting_answer : (p : Program) (w : ℕ) (ready : Readiness) (m : List ℤ) 
     → IsBook p w ready m phs x ns es ss a b c → (IsTrue result ↔ MayStart ready.program ready.gone t) → IsTrue result ↔ MayStart p (let_go (final p es).tasks) t
 waiting_answer p w ready m phs x ns es ss a b c t result book answer =
     subst (λ (g : LetGo). IsTrue result ↔ MayStart p g t) (gone_of p w ready m phs x ns es ss a b c book)
-        (subst (λ (q : Program). IsTrue result ↔ MayStart q ready.gone t) book.of_program answer)
+    (subst (λ (q : Program). IsTrue result ↔ MayStart q ready.gone t) book.of_program answer)
 
 pub leaving_answer : (p : Program) (w : ℕ) (ready : Readiness) (m : List ℤ) (phs : List Phase) (x : Switch) (ns : List ReqNo) (es : List Entry) (ss : List Status) (a b c : ℕ) (reqs : List ReqNo) (result : Bool)
     → IsBook p w ready m phs x ns es ss a b c → (IsTrue result ↔ AreComplete x.program x.exchange reqs) → IsTrue result ↔ AreComplete p (final p es).exchange reqs
@@ -144,7 +147,7 @@ can_move_answer p prog w ready m phs x ns es ss a b c t at found result l book v
     let stands = standing p w ready m phs x ns es ss a b c t at book here in
     let is_def = slice_get-get_or p.tasks.items t no_task within in
     answers_for l p prog w es ss ready.handed t result view same
-      (may_move_is p (final p es) t (get_or p.tasks.items t no_task) at stands is_def result (answer (get_or p.tasks.items t no_task) stands.task is_def stands.is_task))
+    (may_move_is p (final p es) t (get_or p.tasks.items t no_task) at stands is_def result (answer (get_or p.tasks.items t no_task) stands.task is_def stands.is_task))
 
 -- where all are released, by the phases
 pub finished_answer : (p : Program) (w : ℕ) (ready : Readiness) (m : List ℤ) (phs phs' : List Phase) (x : Switch) (ns : List ReqNo) (es : List Entry) (ss : List Status) (a b c : ℕ) (result : Bool) (l : Ledger)
@@ -152,9 +155,9 @@ pub finished_answer : (p : Program) (w : ℕ) (ready : Readiness) (m : List ℤ)
     → phs' ≡ phs → (IsTrue result ↔ All (λ at. at ≡ phase.Released) phs') → IsTrue result ↔ IsFinished (final l.program l.history)
 finished_answer p w ready m phs phs' x ns es ss a b c result l book view seen answer =
     let own : IsTrue result ↔ All (λ at. at ≡ phase.Released) (map (λ (z : Task). z.phase) (final p es).tasks) =
-        subst (λ (z : List Phase). IsTrue result ↔ All (λ at. at ≡ phase.Released) z) (seen ∙ book.kept.phases_are) answer in
+    subst (λ (z : List Phase). IsTrue result ↔ All (λ at. at ≡ phase.Released) z) (seen ∙ book.kept.phases_are) answer in
     subst (λ (z : Ledger). IsTrue result ↔ IsFinished (final z.program z.history)) view
-      (λ yes. released_tasks (final p es).tasks (own.0 yes), λ all. own.1 (released_phases (final p es).tasks all))
+    (λ yes. released_tasks (final p es).tasks (own.0 yes), λ all. own.1 (released_phases (final p es).tasks all))
 
 -- the tasks before a place can't move
 abbrev pub NoneBefore : Program → State → ℕ → Type 0

@@ -1,12 +1,10 @@
 -- One equation for each kind of move.
-use Rattle.std.proofs.Common.{◌≡◌, ℕ, ◌+◌, List, length, slice_get, slice_set, Some, refl}
+use Rattle.std.proofs.Common.{◌≡◌, ℕ, slice_get, Some, refl}
 use Rattle.rt_base.specs.declared.data.Phase.{Phase}
-use Rattle.rt_base.specs.declared.data.Phase.TheVariants as phase
-use Rattle.rt_base.specs.declared.data.Op.{Op}
 use Rattle.rt_base.specs.declared.data.TaskDef.{TaskDef}
 use Rattle.rt_base.specs.declared.data.Program.{Program}
 use Rattle.rt_base.specs.State.{State, Task}
-use Rattle.core_book.specs.Machine.{Moved, move, move_at}
+use Rattle.core_book.specs.Machine.{move, move_at}
 
 -- the move of a task that stands there is the row of its phase
 pub move-row : (p : Program) (s : State) (t : ℕ) (def : TaskDef) (task : Task) (at : Phase) → slice_get p.tasks.items t ≡ Some def → slice_get s.tasks t ≡ Some task

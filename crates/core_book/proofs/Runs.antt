@@ -1,12 +1,12 @@
 -- A run goes on by one step: what becomes of its state, its entries and its legality.
-use Rattle.std.proofs.Common.{◌≡◌, ℕ, ◌+◌, ◌<◌, ◌≤◌, List, [], ◌∷◌, ◌++◌, length, map, refl, sym, ap, ◌∙◌, subst, inl, inr, append_assoc, arith, rules, lt-ltb}
+use Rattle.std.proofs.Common.{◌≡◌, ℕ, ◌<◌, List, [], ◌∷◌, ◌++◌, length, refl, sym, ap, ◌∙◌, inl, lt-ltb}
 use Rattle.std.proofs.lemmas.Option.{slice_get_within}
 use Rattle.rt_base.specs.declared.data.Status.{Status}
 use Rattle.rt_base.specs.declared.data.Entry.{Entry}
 use Rattle.rt_base.specs.declared.data.Program.{Program}
 use Rattle.rt_base.specs.State.{State, opening}
 use Rattle.rt_base.specs.MayMove.{MayMove}
-use Rattle.core_book.specs.Machine.{Moved, move, poll, step, MayStep, MayPoll}
+use Rattle.core_book.specs.Machine.{Moved, move, step, MayStep}
 use Rattle.core_book.specs.Legal.{IsDefined, state_after, entries_after, caller, callers, final, IsLegal}
 
 -- one caller more at the end
@@ -50,9 +50,10 @@ pub legal-push : (p : Program) (workers : ℕ) (es : List Entry) (old told : Lis
 legal-push p workers es old told t new e legal exists who may moved statuses = record {
   runs = rw (callers-push p es e, who) (IsDefined-push p workers (opening p) (callers p es) t legal.runs (inl may));
   replies =
-    ap (λ (xs : List Entry). xs ++ e ∷ []) legal.replies
-    ∙ ap (λ (x : Entry). entries_after p (opening p) (callers p es) ++ x ∷ []) (sym (ap (λ (m : Moved). m.entry) (step-task p (final p es) t exists ∙ moved)))
-    ∙ sym (entries_after-push p (opening p) (callers p es) t)
-    ∙ ap (λ c. entries_after p (opening p) (callers p es ++ c ∷ [])) (sym who)
-    ∙ ap (entries_after p (opening p)) (sym (callers-push p es e));
-  told = sym (ap (λ (s : State). s.statuses) (final-push p es t new e exists who moved) ∙ statuses) }
+      ap (λ (xs : List Entry). xs ++ e ∷ []) legal.replies
+      ∙ ap (λ (x : Entry). entries_after p (opening p) (callers p es) ++ x ∷ []) (sym (ap (λ (m : Moved). m.entry) (step-task p (final p es) t exists ∙ moved)))
+      ∙ sym (entries_after-push p (opening p) (callers p es) t)
+      ∙ ap (λ c. entries_after p (opening p) (callers p es ++ c ∷ [])) (sym who)
+      ∙ ap (entries_after p (opening p)) (sym (callers-push p es e));
+  told = sym (ap (λ (s : State). s.statuses) (final-push p es t new e exists who moved) ∙ statuses);
+}

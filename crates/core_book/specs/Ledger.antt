@@ -27,7 +27,12 @@ pub record Ledger : Type 0 where
 -- a new book: nothing has happened, and no task was handed out
 abbrev pub new_ledger : Program → ℕ → Ledger
 new_ledger program workers = record {
-    program = program; workers = workers; history = []; statuses = []; handed = replicate (length program.tasks.items) false }
+  program = program;
+  workers = workers;
+  history = [];
+  statuses = [];
+  handed = replicate (length program.tasks.items) false;
+}
 
 -- a task that may start was not handed out
 abbrev pub IsReady : Ledger → ℕ → Type 0

@@ -1,6 +1,5 @@
 -- Runs of the machine, and which histories are legal.
-use Rattle.std.specs.Prelude.{◌≡◌, ℕ, ◌+◌, ◌≢◌, List, [], ◌∷◌, map, length, slice_get, Some, All, ⊤}
-use Rattle.rt_base.specs.declared.data.ReqNo.{ReqNo}
+use Rattle.std.specs.Prelude.{◌≡◌, ℕ, ◌+◌, List, [], ◌∷◌, map, length, All, ⊤}
 use Rattle.rt_base.specs.declared.data.Phase.{Phase}
 use Rattle.rt_base.specs.declared.data.Phase.TheVariants as phase
 use Rattle.rt_base.specs.declared.data.Status.{Status}

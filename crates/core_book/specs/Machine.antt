@@ -1,10 +1,9 @@
 -- The machine that has a thread for each task: its moves, and what each of them adds to the history.
-use Rattle.std.specs.Prelude.{◌≡◌, ℕ, ◌+◌, ◌-◌, ◌<◌, ◌≤◌, nat_lt, Bool, true, false, ◌&&◌, not, ◌⊎◌, List, [], ◌∷◌, ◌++◌, length, slice_get, slice_set, count_by, drop, ℤ, Option, Some, None, option_map, if◌then◌else◌}
+use Rattle.std.specs.Prelude.{ℕ, ◌+◌, ◌-◌, ◌<◌, ◌≤◌, nat_lt, Bool, true, false, ◌&&◌, not, ◌⊎◌, List, [], ◌∷◌, ◌++◌, length, slice_get, slice_set, count_by, ℤ, Option, Some, None, option_map, if◌then◌else◌}
 use Rattle.std.specs.List.{list_any, flat_map}
 use Rattle.rt_base.specs.declared.data.ReqNo.{ReqNo}
 use Rattle.rt_base.specs.declared.data.Phase.{Phase}
 use Rattle.rt_base.specs.declared.data.Phase.TheVariants as phase
-use Rattle.rt_base.specs.declared.data.Status.{Status}
 use Rattle.rt_base.specs.declared.data.Handle.{Handle}
 use Rattle.rt_base.specs.declared.data.Op.{Op}
 use Rattle.rt_base.specs.declared.data.Op.TheVariants as op
@@ -84,8 +83,9 @@ no_move state t = record { state = state; entry = entry.Return (task_no t) }
 -- a waiting task starts with a copy of its regions (OmpSs-2, task dependences; the copy is this project's)
 abbrev pub start_move : Program → State → ℕ → TaskDef → Moved
 start_move program state t def = record {
-    state = with_task state t (record { phase = stop def 0; copy = advanced def 0 (loaded program def state.memory); named = []; bound = [] });
-    entry = entry.Start (task_no t) }
+  state = with_task state t (record { phase = stop def 0; copy = advanced def 0 (loaded program def state.memory); named = []; bound = [] });
+  entry = entry.Start (task_no t);
+}
 
 -- where a posting leads: a blocking one stays in its operation, another goes on
 abbrev pub posted_task : TaskDef → ℕ → Bool → Task → Task
@@ -102,24 +102,29 @@ post_move program state t def task k blocking =
       state = record state {
         tasks = slice_set state.tasks t (posted_task def k blocking task);
         exchange = after;
-        notices = state.notices ++ noticed program state.tasks state.exchange (partner program state.exchange req cells) };
-      entry = entry.Call (task_no t) k (open_count program after (req ∷ [])) }
+        notices = state.notices ++ noticed program state.tasks state.exchange (partner program state.exchange req cells);
+      };
+      entry = entry.Call (task_no t) k (open_count program after (req ∷ []));
+    }
 
 -- operation k waits for the requests that it names (MPI 4.0, 3.7.3 and 3.7.5)
 abbrev pub wait_move : Program → State → ℕ → Task → ℕ → List ReqNo → Moved
 wait_move program state t task k reqs = record {
-    state = with_task state t (record task { phase = phase.In k });
-    entry = entry.Call (task_no t) k (open_count program state.exchange reqs) }
+  state = with_task state t (record task { phase = phase.In k });
+  entry = entry.Call (task_no t) k (open_count program state.exchange reqs);
+}
 
 -- operation k binds the requests that it names and that are incomplete, and goes on (TAMPI, TAMPI_Iwait and TAMPI_Iwaitall)
 abbrev pub bind_move : Program → State → ℕ → TaskDef → Task → ℕ → List ReqNo → Moved
 bind_move program state t def task k reqs = record {
-    state = with_task state t (record {
-        phase = stop def (k + 1);
-        copy = advanced def (k + 1) task.copy;
-        named = task.named ++ k ∷ [];
-        bound = task.bound ++ open_ones program state.exchange reqs });
-    entry = entry.Call (task_no t) k (open_count program state.exchange reqs) }
+  state = with_task state t (record {
+    phase = stop def (k + 1);
+    copy = advanced def (k + 1) task.copy;
+    named = task.named ++ k ∷ [];
+    bound = task.bound ++ open_ones program state.exchange reqs;
+  });
+  entry = entry.Call (task_no t) k (open_count program state.exchange reqs);
+}
 
 abbrev pub await_move : Program → State → ℕ → TaskDef → Task → ℕ → List Handle → Bool → Moved
 await_move program state t def task k handles false = wait_move program state t task k (named_requests t handles)
@@ -139,16 +144,20 @@ leave_move program state t def task k =
     record {
       state = record state {
         tasks = slice_set state.tasks t (record task {
-            phase = stop def (k + 1);
-            copy = advanced def (k + 1) (taken program state.exchange t def k task.copy) });
-        statuses = state.statuses ++ statuses };
-      entry = entry.Leave (task_no t) k (length state.statuses) (length statuses) }
+          phase = stop def (k + 1);
+          copy = advanced def (k + 1) (taken program state.exchange t def k task.copy);
+        });
+        statuses = state.statuses ++ statuses;
+      };
+      entry = entry.Leave (task_no t) k (length state.statuses) (length statuses);
+    }
 
 -- a task whose body has ended returns
 abbrev pub return_move : State → ℕ → Task → Moved
 return_move state t task = record {
-    state = with_task state t (record task { phase = phase.Returned });
-    entry = entry.Return (task_no t) }
+  state = with_task state t (record task { phase = phase.Returned });
+  entry = entry.Return (task_no t);
+}
 
 -- the copy after each of these operations, which bound requests, has stored what it received
 abbrev pub taken_by_all : Program → Exchange → ℕ → TaskDef → List ℕ → List ℤ → List ℤ
@@ -165,8 +174,10 @@ release_move program state t def task =
       state = record state {
         memory = saved program def copy state.memory;
         tasks = slice_set state.tasks t (record task { phase = phase.Released; copy = copy });
-        statuses = state.statuses ++ statuses };
-      entry = entry.Release (task_no t) (length state.statuses) (length statuses) }
+        statuses = state.statuses ++ statuses;
+      };
+      entry = entry.Release (task_no t) (length state.statuses) (length statuses);
+    }
 
 -- the move of a task that stands there
 abbrev pub move_at : Program → State → ℕ → TaskDef → Task → Phase → Moved

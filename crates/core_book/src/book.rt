@@ -10,17 +10,20 @@ ghost use Rattle.task_local.specs.Standing.{def, packed_next};
 ghost use Rattle.core_book.specs.Machine.{move};
 ghost use Rattle.core_book.specs.Ledger.{MakesMove, IsReady, IsAtPosting, IsInPosting, LeavesPending, new_ledger};
 
-use crate::posting::{blocked_place, call_place, pending, phase_after, place_after, post, posting_at, store_status, tell, tell_status};
+use crate::posting::{
+    blocked_place, call_place, pending, phase_after, place_after, post, posting_at, store_status,
+    tell, tell_status,
+};
 use crate::room::{all_waiting, cell_count, count_of, most_moves, note, zeros};
-use region_deps::Deps;
 use crate::tasks::{all_released, phase_before, stop, task_of};
 use crate::waits::{may_leave, nth_at};
 use match_engine::Engine;
-use task_local::TaskRec;
+use region_deps::Deps;
 use rt_base::{Cells, Entry, History, Listed, Phase, Phases, Program, ReqNo, Status, TaskNo};
 use std::alloc::{AllocError, Global};
 use std::marker::Model;
 use std::snapshot::Snapshot;
+use task_local::TaskRec;
 
 /// What is left of a book: the history, and the cells and the phases of the state after it.
 #[derive(Debug, Drop)]
@@ -53,7 +56,12 @@ impl Model for Book {
     ghost Value = { Ledger };
 
     ghost view = { λ b. record {
-        program = b.program.value; workers = b.workers; history = b.entries.items; statuses = b.statuses.items; handed = b.deps.handed } };
+      program = b.program.value;
+      workers = b.workers;
+      history = b.entries.items;
+      statuses = b.statuses.items;
+      handed = b.deps.handed;
+    } };
 
     ghost invariant = { λ b. IsBook b.program.value b.workers b.deps b.memory.items b.phases.items b.engine b.notices.items
         b.entries.items b.statuses.items (vec_capacity b.entries) (vec_capacity b.statuses) (vec_capacity b.notices) };
@@ -134,7 +142,14 @@ impl Book {
         phases[task.0 as usize] = phase_after(def, k, posting.how);
         rec.go(prog, place_after(def, k, posting.how));
         let pending = pending(&self.engine, req);
-        note(&mut self.entries, Entry::Call { task, op: k, pending });
+        note(
+            &mut self.entries,
+            Entry::Call {
+                task,
+                op: k,
+                pending,
+            },
+        );
         pending
     }
 
@@ -163,7 +178,15 @@ impl Book {
         store_status(rec, prog, &self.engine, req, posting);
         phases[task.0 as usize] = stop(def, k + 1);
         rec.go(prog, phase_before(def, k + 1));
-        note(&mut self.entries, Entry::Leave { task, op: k, from, count });
+        note(
+            &mut self.entries,
+            Entry::Leave {
+                task,
+                op: k,
+                from,
+                count,
+            },
+        );
     }
 
     /// The task returns: its body has ended. Takes no memory.
@@ -198,7 +221,14 @@ impl Book {
         self.phases[task.0 as usize] = Phase::Released;
         self.deps.release(task);
         let from = count_of(&self.statuses);
-        note(&mut self.entries, Entry::Release { task, from, count: 0 });
+        note(
+            &mut self.entries,
+            Entry::Release {
+                task,
+                from,
+                count: 0,
+            },
+        );
     }
 
     /// Whether the task may make its next move. Takes no memory. Looks at all earlier tasks where it waits, and else at the requests that it awaits.

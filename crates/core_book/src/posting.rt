@@ -17,8 +17,8 @@ ghost use Rattle.rt_base.specs.WellFormed.{WellFormed, IsDeclared};
 ghost use Rattle.core_book.specs.Ledger.{IsPosting};
 ghost use Rattle.core_book.specs.Kept.{IsCallAt, IsBlockedAt, PostsAs, told_now, awaits_now, noticed_now};
 
-use crate::tasks::{phase_before, stop, task_of};
 use crate::room::note;
+use crate::tasks::{phase_before, stop, task_of};
 use crate::waits::{blocks, nth_at};
 use match_engine::Engine;
 use rt_base::{Cells, Handle, How, Op, Phase, Program, ReqNo, Span, Status, TaskDef, TaskNo};
@@ -72,7 +72,12 @@ pub(crate) fn posting_at(def: &TaskDef, k: u32) -> Posting
 {
     match &def.body.as_slice()[k as usize] {
         Op::Compute { .. } => unreachable!(),
-        Op::Post { how, span, status, .. } => Posting {
+        Op::Post {
+            how,
+            span,
+            status,
+            ..
+        } => Posting {
             how: *how,
             span: *span,
             status: *status,
@@ -96,7 +101,13 @@ pub(crate) fn is_receive(how: How) -> bool
 }
 
 // Posts the request, and answers the other request that it completed.
-pub(crate) fn post(engine: &mut Engine, prog: &Program, req: ReqNo, how: How, cells: Cells) -> Option<ReqNo>
+pub(crate) fn post(
+    engine: &mut Engine,
+    prog: &Program,
+    req: ReqNo,
+    how: How,
+    cells: Cells,
+) -> Option<ReqNo>
     requires program { prog.now ≡ engine.old.program }
     requires send { is_receive how ≡ false → IsSend engine.old.program req (length cells.items) }
     requires receive { is_receive how ≡ true → IsReceive engine.old.program req × (cells.items ≡ []) }
@@ -195,7 +206,13 @@ fn is_named(handles: &[Handle], nth: u32) -> bool
 }
 
 // Appends the notice of the request that a posting completed beside its own.
-pub(crate) fn tell(notices: &mut Vec<ReqNo>, engine: &Engine, prog: &Program, phases: &[Phase], partner: Option<ReqNo>)
+pub(crate) fn tell(
+    notices: &mut Vec<ReqNo>,
+    engine: &Engine,
+    prog: &Program,
+    phases: &[Phase],
+    partner: Option<ReqNo>,
+)
     requires room { length notices.old.items < vec_capacity notices.old }
     requires same { engine.now.program ≡ prog.now }
     requires phases { length phases.now ≡ length prog.now.tasks.items }
@@ -212,7 +229,13 @@ pub(crate) fn tell(notices: &mut Vec<ReqNo>, engine: &Engine, prog: &Program, ph
 }
 
 // Appends the status that a posting tells as it is left, and answers how many it told.
-pub(crate) fn tell_status(statuses: &mut Vec<Status>, engine: &Engine, prog: &Program, req: ReqNo, how: How) -> u32
+pub(crate) fn tell_status(
+    statuses: &mut Vec<Status>,
+    engine: &Engine,
+    prog: &Program,
+    req: ReqNo,
+    how: How,
+) -> u32
     requires room { length statuses.old.items < vec_capacity statuses.old }
     requires same { prog.now ≡ engine.now.program }
     requires complete { is_complete engine.now.program engine.now.exchange req ≡ true }
@@ -241,7 +264,13 @@ fn cells_of_status(status: Status) -> [i64; 4]
 }
 
 // Stores the status of a receive where it goes, if it goes anywhere.
-pub(crate) fn store_status(rec: &mut TaskRec, prog: &Program, engine: &Engine, req: ReqNo, posting: Posting)
+pub(crate) fn store_status(
+    rec: &mut TaskRec,
+    prog: &Program,
+    engine: &Engine,
+    req: ReqNo,
+    posting: Posting,
+)
     requires well_formed { WellFormed prog.now }
     requires same { prog.now ≡ rec.old.program }
     requires of_program { prog.now ≡ engine.now.program }
@@ -250,7 +279,8 @@ pub(crate) fn store_status(rec: &mut TaskRec, prog: &Program, engine: &Engine, r
     requires receive { IsSome posting.status → is_receive posting.how ≡ true }
     requires declared { IfSome posting.status (λ span. IsDeclared (def rec.old).accesses.items span × (span_len span ≡ 4)) }
     ensures { rec.new ≡ record rec.old {
-        copy = put_statuses (def rec.old) posting.status (told_now engine.now.program engine.now.exchange req posting.how) rec.old.copy } }
+      copy = put_statuses (def rec.old) posting.status (told_now engine.now.program engine.now.exchange req posting.how) rec.old.copy;
+    } }
 {
     if let Some(span) = posting.status {
         rec.store(prog, span, &cells_of_status(engine.status(prog, req)));

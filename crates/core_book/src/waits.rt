@@ -77,7 +77,11 @@ fn posting_is_complete(engine: &Engine, task: TaskNo, def: &TaskDef, k: u32, how
     requires few { length def.now.body.items < 2 ^ 32 }
     ensures { result ≡ (not (blocks how) || is_complete engine.now.program engine.now.exchange (request task.0 (nth_at def.now k))) }
 {
-    !blocks(how) || engine.complete(ReqNo { task, nth: nth_at(def, k) })
+    !blocks(how)
+        || engine.complete(ReqNo {
+            task,
+            nth: nth_at(def, k),
+        })
 }
 
 // Whether all for which the task waits in operation k is complete.

@@ -84,13 +84,14 @@ starts_by_look {program} {orders} {orders'} {handed} {released} {released'} {now
     let exists_here : t < length program.tasks.items = subst (λ (q : Program). t < length q.tasks.items) (sym programs) exists in
     let many : length orders ≡ length program.tasks.items = ap (λ (l : List Facts). length l) kept.copied ∙ length-map program.tasks.items facts_of in
     let is_later : slice_get (map facts_of program.tasks.items) t ≡ Some later =
-        ap (λ (l : List Facts). slice_get l t) (sym kept.copied) ∙ slice_get_read orders (length program.tasks.items) t later (sym many) exists_here here in
-    let whole = kept.released_by_all in
-    (λ yes. subst (λ (r : Readiness). MayStart r.program r.gone t) view (starts_if_free program released whole t exists_here
-        (λ other is_other. subst (IsFree (map facts_of program.tasks.items) released t) (one_item is_later is_other)
-            (subst (λ (r : List Bool). IsFree (map facts_of program.tasks.items) r t later) same_released (subst (λ (l : List Facts). IsFree l released' t later) copied (free.0 yes))))),
-     λ start. free.1 (subst (λ (l : List Facts). IsFree l released' t later) (sym copied) (subst (λ (r : List Bool). IsFree (map facts_of program.tasks.items) r t later) (sym same_released)
-        (free_if_starts program released t (subst (λ (r : Readiness). MayStart r.program r.gone t) (sym view) start) later is_later))))
+    ap (λ (l : List Facts). slice_get l t) (sym kept.copied) ∙ slice_get_read orders (length program.tasks.items) t later (sym many) exists_here here in
+    let whole = kept.released_by_all in (
+      λ yes. subst (λ (r : Readiness). MayStart r.program r.gone t) view (starts_if_free program released whole t exists_here
+          (λ other is_other. subst (IsFree (map facts_of program.tasks.items) released t) (one_item is_later is_other)
+          (subst (λ (r : List Bool). IsFree (map facts_of program.tasks.items) r t later) same_released (subst (λ (l : List Facts). IsFree l released' t later) copied (free.0 yes))))),
+      λ start. free.1 (subst (λ (l : List Facts). IsFree l released' t later) (sym copied) (subst (λ (r : List Bool). IsFree (map facts_of program.tasks.items) r t later) (sym same_released)
+          (free_if_starts program released t (subst (λ (r : Readiness). MayStart r.program r.gone t) (sym view) start) later is_later))),
+    )
 
 -- the same lists, the same offer
 pub same_offer : {tasks tasks' : List Facts} {handed handed' released released' : List Bool} {t : ℕ} → tasks ≡ tasks' → handed ≡ handed' → released ≡ released' →

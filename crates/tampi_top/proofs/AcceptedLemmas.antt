@@ -23,7 +23,7 @@ accepted_from asked text stmts (Err why) spelled unrolled lawful = tt
 pub none_from : (asked : Command) (text : List ℕ) (stmts : List Stmt) (result : Result Program Unaccepted)
     → ((other : List Stmt) → IsTree 1 (lines_of text) other → is_form_two other ≡ true → ¬ Contains text 35 → stmts ≡ other)
     → IfErr result (λ why. why ≡ unaccepted.NotBuilt
-        → (program : Program) → IsProgramOf stmts asked.ranks asked.eager program → IsLawful stmts asked.ranks program → ⊥)
+    → (program : Program) → IsProgramOf stmts asked.ranks asked.eager program → IsLawful stmts asked.ranks program → ⊥)
     → IfErr result (λ why. why ≡ unaccepted.NotBuilt → HasNoProgram asked text)
 none_from asked text stmts (Ok program) only none = tt
 none_from asked text stmts (Err why) only none = λ is program said.

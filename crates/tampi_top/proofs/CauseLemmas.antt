@@ -1,5 +1,5 @@
 -- No refusal is due of a text that says a program.
-use Rattle.std.proofs.Common.{◌≡◌, ℕ, ◌+◌, ◌≤◌, List, [], ◌++◌, length, Option, Some, None, refl, sym, ap, ◌∙◌, subst, arith, length-append}
+use Rattle.std.proofs.Common.{◌≡◌, ℕ, ◌+◌, ◌≤◌, List, [], length, Option, Some, None, refl, ap, ◌∙◌, subst, arith, length-append}
 use Rattle.rt_base.specs.declared.data.Status.{Status}
 use Rattle.rt_base.specs.declared.data.Entry.{Entry}
 use Rattle.rt_base.specs.declared.data.Program.{Program}

@@ -23,5 +23,6 @@ decided_by call asked text (due.Ran run) is_asked whole short of_text = record {
   short = short;
   program = of_text.0;
   accepted = of_text.1;
-  run = of_text.2 }
+  run = of_text.2;
+}
 decided_by call asked text due.Memory is_asked whole short of_text = tt

@@ -69,4 +69,5 @@ run_as program entries statuses cells phases outcome text legal quiet same_cells
   ends = subst (λ (outcome : Verdict). EndsAs outcome program (final program entries)) (sym is_outcome)
       (ends_as program (final program entries) phases same_phases quiet);
   reported = told ∙ ap (λ (cells : List ℤ). report program cells phases) same_cells
-      ∙ ap (λ (phases : List Phase). report program (final program entries).memory phases) same_phases }
+      ∙ ap (λ (phases : List Phase). report program (final program entries).memory phases) same_phases;
+}

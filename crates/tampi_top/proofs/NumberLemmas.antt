@@ -1,5 +1,5 @@
 -- Numbers of few digits.
-use Rattle.std.proofs.Common.{ℕ, ◌+◌, ◌*◌, ◌^◌, ◌<◌, ◌≤◌, arith, lit< }
+use Rattle.std.proofs.Common.{ℕ, ◌^◌, ◌≤◌, lit<}
 use Rattle.std.proofs.Math.Nat.{pow-le-pow_right}
 
 -- a power of ten of at most nine zeros

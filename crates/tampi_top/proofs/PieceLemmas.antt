@@ -1,5 +1,5 @@
 -- A text that is written in pieces.
-use Rattle.std.proofs.Common.{◌≡◌, ℕ, ◌+◌, ◌-◌, ◌≤◌, List, ◌++◌, length, take, drop, Option, sym, ap, ◌∙◌, subst, arith, length-take, length-drop}
+use Rattle.std.proofs.Common.{◌≡◌, ℕ, ◌+◌, ◌-◌, ◌≤◌, List, ◌++◌, length, take, drop, Option, sym, ap, ◌∙◌, subst, arith, length-take}
 use Rattle.std.proofs.Math.Seq.{take-add}
 use Rattle.std.proofs.KnownBytes.{Appends-trans}
 use Rattle.std.proofs.lemmas.List.{take-take}
@@ -23,8 +23,9 @@ pub piece_broken : (a b c : Option (List ℕ)) (text : List ℕ) (at end : ℕ) 
     → Appends a b (take at text) → AppendsFront b c (take (end - at) (drop at text)) → AppendsFront a c text
 piece_broken a b c text at end le within first second =
     let n = second.0 in
-    let few : n ≤ end - at = omega (arith, second.1, length-take (end - at) (drop at text)) in
-    ( at + n,
+    let few : n ≤ end - at = omega (arith, second.1, length-take (end - at) (drop at text)) in (
+      at + n,
       omega (arith, few),
       subst (Appends a c) (sym (take-add at n text))
-        (Appends-trans a b c _ _ first (subst (λ bytes. Appends b c bytes) (take-take n (end - at) (drop at text) few) second.2)) )
+          (Appends-trans a b c _ _ first (subst (λ bytes. Appends b c bytes) (take-take n (end - at) (drop at text) few) second.2)),
+    )

@@ -1,5 +1,5 @@
 -- A text of the form that is read has calls that block, and no wait: its program is one that the plain run takes.
-use Rattle.std.proofs.Common.{◌≡◌, ℕ, zero, suc, ◌<◌, Bool, true, false, ◌&&◌, cond, List, [], ◌∷◌, length, slice_get, get_or, Some, None, Option, option_map, refl, sym, ap, ◌∙◌, subst, All, arith}
+use Rattle.std.proofs.Common.{◌≡◌, ℕ, zero, suc, ◌<◌, Bool, true, false, cond, List, [], ◌∷◌, length, slice_get, get_or, Some, None, Option, option_map, refl, ap, subst, All, arith}
 use Rattle.std.specs.Prelude.{ℤ, ⊤}
 use Rattle.std.proofs.lemmas.Bool.{and_parts}
 use Rattle.std.proofs.lemmas.Option.{slice_get-get_or}
@@ -25,7 +25,7 @@ use Rattle.task_expand.specs.declared.work.Work.{Work}
 use Rattle.task_expand.specs.declared.work.Work.TheVariants as work
 use Rattle.task_expand.specs.declared.said.Said.{Said}
 use Rattle.task_expand.specs.declared.said.Said.TheVariants as said
-use Rattle.task_expand.specs.Said.{meant, and_more, all_said}
+use Rattle.task_expand.specs.Said.{meant, and_more}
 use Rattle.task_expand.specs.Arrays.{names_of, span_of}
 use Rattle.task_expand.specs.Lines.{tag_of, filling, copying, posting, work_by, works_of, peer_of, op_of, body_of, IsTaskOf, AreTasksOf, task_line, IsProgramOf}
 use Rattle.core_book.specs.Plain.{IsPlainOperation, IsPlain}

@@ -1,5 +1,5 @@
 -- The report of a run (this project's): its verdict, the shown arrays of each rank, and where it is stuck each task that is not released.
-use Rattle.std.specs.Prelude.{ℕ, ◌+◌, Bool, true, false, List, [], ◌∷◌, ◌++◌, map, take, drop, slice_get, ℤ, codes, unwrap_or, if◌then◌else◌}
+use Rattle.std.specs.Prelude.{ℕ, ◌+◌, Bool, List, [], ◌∷◌, ◌++◌, take, drop, slice_get, ℤ, codes, unwrap_or, if◌then◌else◌}
 use Rattle.std.specs.List.{flat_map, list_all, range_with_len}
 use Rattle.std.specs.Fmt.{decimal, signed_decimal}
 use Rattle.rt_base.specs.declared.data.Phase.{Phase}

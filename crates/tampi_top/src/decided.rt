@@ -38,11 +38,12 @@ fn due_of_text(alloc: Global, text: &[u8], asked: Command) -> Due
 /// What a call with these words owes. Reads the input to its end where the words give a command, and else not at all.
 pub fn due_of<S: ByteSource>(alloc: Global, words: &[String], input: &mut S) -> Due
     ensures { IsDecided (record {
-        words = words.now;
-        given = S.rest input.old;
-        left = S.rest input.new;
-        before = S.faults input.old;
-        now = S.faults input.new }) result }
+      words = words.now;
+      given = S.rest input.old;
+      left = S.rest input.new;
+      before = S.faults input.old;
+      now = S.faults input.new;
+    }) result }
 {
     match command_of(words) {
         None => Due::Refused(Refusal::Words),

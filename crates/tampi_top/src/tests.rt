@@ -8,11 +8,14 @@ use std::thread::Threads;
 
 const TWO_CELLS: &[u8] = b"array u, 2\nshow u\ntask\nout u[0..2]\ndo\nfill u[0..2], 7\nend\n";
 
-const RECEIVE_FIRST: &[u8] = b"array a, 1\ntask\ninout a[0..1]\ndo\nrecv a[0..1], 1 - rank, 0\nsend a[0..1], 1 - rank, 0\nend\n";
+const RECEIVE_FIRST: &[u8] =
+    b"array a, 1\ntask\ninout a[0..1]\ndo\nrecv a[0..1], 1 - rank, 0\nsend a[0..1], 1 - rank, 0\nend\n";
 
-const TO_ITSELF: &[u8] = b"array a, 6\ntask\ninout a[0..6]\ndo\nsend a[0..3], 0, 0\nrecv a[3..6], 0, 0\nend\n";
+const TO_ITSELF: &[u8] =
+    b"array a, 6\ntask\ninout a[0..6]\ndo\nsend a[0..3], 0, 0\nrecv a[3..6], 0, 0\nend\n";
 
-const FILLED_AND_SENT: &[u8] = b"array a, 2\nshow a\ntask\ninout a[0..2]\ndo\nfill a[0..1], 4\nsend a[0..1], 0, 3\nrecv a[1..2], 0, 3\nend\n";
+const FILLED_AND_SENT: &[u8] =
+    b"array a, 2\nshow a\ntask\ninout a[0..2]\ndo\nfill a[0..1], 4\nsend a[0..1], 0, 3\nrecv a[1..2], 0, 3\nend\n";
 
 const NO_CELL: &[u8] = b"array a, 1\ntask\nin a[0..1]\ndo\nsend a[0..0], 0, 0\nend\n";
 

@@ -87,7 +87,11 @@ fn refused<K: ByteSink>(alloc: Global, out: &mut K, refusal: Refusal) -> Outcome
     ensures broken { result.status ≡ 5
         → Rose (K.faults out.old) (K.faults out.new) × AppendsFront (K.written out.old) (K.written out.new) (refusal_text refusal) }
 {
-    let status = say(out, refusal_text(refusal).as_bytes(), refusal_status(refusal));
+    let status = say(
+        out,
+        refusal_text(refusal).as_bytes(),
+        refusal_status(refusal),
+    );
     ended(alloc, status)
 }
 
@@ -106,22 +110,24 @@ pub fn tampi<R: Threads + Wait + Sync, S: ByteSource, K: ByteSink, G: Gate>(
     ensures told { result.status ≢ 5 → result.status ≢ 6 → (ends : Ending) × (text : List ℕ)
         × (result.status ≡ status_of ends)
         × IsDue (record {
-              words = words.now;
-              given = S.rest input.old;
-              left = S.rest input.new;
-              before = S.faults input.old;
-              now = S.faults input.new }) ends result.history.entries.items result.history.statuses.items text
+          words = words.now;
+          given = S.rest input.old;
+          left = S.rest input.new;
+          before = S.faults input.old;
+          now = S.faults input.new;
+        }) ends result.history.entries.items result.history.statuses.items text
         × Appends (K.written out.old) (K.written out.new) text }
 
     // Status 5: a write failed, and a front of what was due was written.
     ensures broken { result.status ≡ 5 → (ends : Ending) × (text : List ℕ)
         × Rose (K.faults out.old) (K.faults out.new)
         × IsDue (record {
-              words = words.now;
-              given = S.rest input.old;
-              left = S.rest input.new;
-              before = S.faults input.old;
-              now = S.faults input.new }) ends result.history.entries.items result.history.statuses.items text
+          words = words.now;
+          given = S.rest input.old;
+          left = S.rest input.new;
+          before = S.faults input.old;
+          now = S.faults input.new;
+        }) ends result.history.entries.items result.history.statuses.items text
         × AppendsFront (K.written out.old) (K.written out.new) text }
 
     // Status 6: memory was wanted, and nothing was written.

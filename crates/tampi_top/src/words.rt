@@ -135,7 +135,7 @@ fn first_part<'a>(settings: Settings, word: &'a [u8]) -> Option<(Settings, Optio
     ensures rest { MatchOption result
         ((words : List (List ℕ)) → command_of_rest settings None (word.now ∷ words) ≡ None)
         (λ after. (words : List (List ℕ)) → command_of_rest after.0 (option_copied after.1) words
-            ≡ command_of_rest settings None (word.now ∷ words)) }
+        ≡ command_of_rest settings None (word.now ∷ words)) }
 {
     match cut(word) {
         Some((name, value)) => Some((settings.with(name, value)?, None)),
@@ -153,7 +153,7 @@ fn with_word<'a>(
     ensures rest { MatchOption result
         ((words : List (List ℕ)) → command_of_rest settings (option_copied waiting.entry) (word.now ∷ words) ≡ None)
         (λ after. (words : List (List ℕ)) → command_of_rest after.0 (option_copied after.1) words
-            ≡ command_of_rest settings (option_copied waiting.entry) (word.now ∷ words)) }
+        ≡ command_of_rest settings (option_copied waiting.entry) (word.now ∷ words)) }
 {
     match waiting {
         Some(name) => Some((settings.with(name, word)?, None)),

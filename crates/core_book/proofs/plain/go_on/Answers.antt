@@ -1,5 +1,5 @@
 -- A task that may move where none is ready was started, and its record goes on.
-use Rattle.std.proofs.Common.{◌≡◌, refl, get_or}
+use Rattle.std.proofs.Common.{refl, get_or}
 use Rattle.core_book.specs.Legal.{final}
 use Rattle.core_book.proofs.Picks.{task_exists, line_here, own_line, own_may, was_started, goes_on_started, quiet_here}
 use Rattle.core_book.proofs.plain.go_on.Goals as goal

@@ -1,5 +1,5 @@
 -- After its local operations the record is before the move that the standing says.
-use Rattle.std.proofs.Common.{◌≡◌, sym, ◌∙◌}
+use Rattle.std.proofs.Common.{sym, ◌∙◌}
 use Rattle.task_local.specs.Standing.{def}
 use Rattle.core_book.specs.Legal.{final}
 use Rattle.core_book.proofs.Before.{is_before, not_local, not_fresh, at_posting, in_posting, has_ended}

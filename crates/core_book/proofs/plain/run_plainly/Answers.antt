@@ -1,5 +1,5 @@
 -- The records stay in line with the book, and the last turn finds that no task may move.
-use Rattle.std.proofs.Common.{◌≡◌, ap, arith}
+use Rattle.std.proofs.Common.{ap, arith}
 use Rattle.core_book.specs.Ledger.{Ledger}
 use Rattle.core_book.proofs.Lines.{line_at_opening, still_running, quiet_end}
 use Rattle.core_book.proofs.plain.run_plainly.Goals as goal

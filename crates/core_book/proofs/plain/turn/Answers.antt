@@ -1,5 +1,5 @@
 -- A task that is ready has a fresh record, and starts.
-use Rattle.std.proofs.Common.{◌≡◌, refl, get_or, subst, sym}
+use Rattle.std.proofs.Common.{get_or, subst, sym}
 use Rattle.rt_base.specs.declared.data.Entry.{Entry}
 use Rattle.std.specs.Prelude.{List, IfOk}
 use Rattle.rt_base.specs.MayMove.{MayMove}

@@ -1,5 +1,5 @@
 -- The request is awaited exactly where the operation's kind says so.
-use Rattle.std.proofs.Common.{◌≡◌, ◌∙◌, refl, sym, ap, List, [], get_or, arith}
+use Rattle.std.proofs.Common.{◌∙◌, refl, sym, ap, List, get_or, arith}
 use Rattle.rt_base.specs.declared.data.Op.{Op}
 use Rattle.rt_base.specs.declared.data.Op.TheVariants as op
 use Rattle.rt_base.specs.declared.data.Handle.{Handle}
@@ -18,30 +18,30 @@ returns-in-Compute c =
     let i = c.in-Compute in
     let x : Op = op.Compute i.kernel i.dst i.left i.right i.value i.step in
     awaited_among c.args.def.now c.args.k x c.args.req _ (at_place c.args.def.now.body.items c.args.k c.index-as_slice-k.result x (omega arith)
-      (c.index-as_slice-k.is ∙ ap (λ (ops : List Op). get_or ops c.args.k c.index-as_slice-k.result) c.as_slice.ensures) i.is) refl
+    (c.index-as_slice-k.is ∙ ap (λ (ops : List Op). get_or ops c.args.k c.index-as_slice-k.result) c.as_slice.ensures) i.is) refl
 
 pub returns-then-blocks : goal.returns-then-blocks
 returns-then-blocks c =
     let i = c.in-Post in
     let x : Op = op.Post i.how i.span i.peer i.tag i.comm i.status in
     awaited_among c.args.def.now c.args.k x c.args.req _ (at_place c.args.def.now.body.items c.args.k c.index-as_slice-k.result x (omega arith)
-      (c.index-as_slice-k.is ∙ ap (λ (ops : List Op). get_or ops c.args.k c.index-as_slice-k.result) c.as_slice.ensures) i.is)
-      (one_among c.args.req (nth_at c.args.def.now c.args.k) (blocks i.how) _
-        (ap (λ n. n == c.args.req.nth) c.nth_at.ensures ∙ sym (ap (λ b. b && (nth_at c.args.def.now c.args.k == c.args.req.nth)) (sym c.blocks-in-Post.ensures ∙ c.if-blocks.true))))
+    (c.index-as_slice-k.is ∙ ap (λ (ops : List Op). get_or ops c.args.k c.index-as_slice-k.result) c.as_slice.ensures) i.is)
+    (one_among c.args.req (nth_at c.args.def.now c.args.k) (blocks i.how) _
+    (ap (λ n. n == c.args.req.nth) c.nth_at.ensures ∙ sym (ap (λ b. b && (nth_at c.args.def.now c.args.k == c.args.req.nth)) (sym c.blocks-in-Post.ensures ∙ c.if-blocks.true))))
 
 pub returns-else-blocks : goal.returns-else-blocks
 returns-else-blocks c =
     let i = c.in-Post in
     let x : Op = op.Post i.how i.span i.peer i.tag i.comm i.status in
     awaited_among c.args.def.now c.args.k x c.args.req _ (at_place c.args.def.now.body.items c.args.k c.index-as_slice-k.result x (omega arith)
-      (c.index-as_slice-k.is ∙ ap (λ (ops : List Op). get_or ops c.args.k c.index-as_slice-k.result) c.as_slice.ensures) i.is)
-      (one_among c.args.req (nth_at c.args.def.now c.args.k) (blocks i.how) _
-        (c.if-blocks.false ∙ sym (ap (λ b. b && (nth_at c.args.def.now c.args.k == c.args.req.nth)) (sym c.blocks-in-Post.ensures ∙ c.if-blocks.false))))
+    (c.index-as_slice-k.is ∙ ap (λ (ops : List Op). get_or ops c.args.k c.index-as_slice-k.result) c.as_slice.ensures) i.is)
+    (one_among c.args.req (nth_at c.args.def.now c.args.k) (blocks i.how) _
+    (c.if-blocks.false ∙ sym (ap (λ b. b && (nth_at c.args.def.now c.args.k == c.args.req.nth)) (sym c.blocks-in-Post.ensures ∙ c.if-blocks.false))))
 
 pub returns-in-Await : goal.returns-in-Await
 returns-in-Await c =
     let i = c.in-Await in
     let x : Op = op.Await i.later i.handles i.status in
     awaited_among c.args.def.now c.args.k x c.args.req _ (at_place c.args.def.now.body.items c.args.k c.index-as_slice-k.result x (omega arith)
-      (c.index-as_slice-k.is ∙ ap (λ (ops : List Op). get_or ops c.args.k c.index-as_slice-k.result) c.as_slice.ensures) i.is)
-      (c.is_named.ensures c.args.req.task.0 ∙ ap (λ (hs : List Handle). list_any (same_request c.args.req) (named_requests c.args.req.task.0 hs)) c.as_slice-in-Await.ensures)
+    (c.index-as_slice-k.is ∙ ap (λ (ops : List Op). get_or ops c.args.k c.index-as_slice-k.result) c.as_slice.ensures) i.is)
+    (c.is_named.ensures c.args.req.task.0 ∙ ap (λ (hs : List Handle). list_any (same_request c.args.req) (named_requests c.args.req.task.0 hs)) c.as_slice-in-Await.ensures)

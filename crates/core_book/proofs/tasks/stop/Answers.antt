@@ -1,7 +1,6 @@
 -- The loop passes local operations, and stops at the first other one or at the end.
-use Rattle.std.proofs.Common.{◌≡◌, ◌<◌, ◌≤◌, length, get_or, List, ap, sym, ◌∙◌, arith}
-use Rattle.rt_base.specs.declared.data.Op.{Op}
-use Rattle.core_book.proofs.Stops.{stop_passed, stop_found, stop_ended, stop_begins}
+use Rattle.std.proofs.Common.{sym, ◌∙◌}
+use Rattle.core_book.proofs.Stops.{stop_passed, stop_begins}
 use Rattle.core_book.proofs.tasks.stop.Goals as goal
 
 pub loop-at-init : goal.loop-at-init
@@ -11,4 +10,4 @@ pub loop-at-preserved : goal.loop-at-preserved
 loop-at-preserved c =
     let body = c.as_slice-body.ensures in
     stop_passed c.args.def.now c.args.k c.loop-at.at c.index-body-at.result c.loop-at.invariant.0 (rw (← body) c.loop-at-test.true)
-        (rw (← body) c.index-body-at.is) (sym c.is_local.ensures ∙ c.if-not-is_local.false)
+    (rw (← body) c.index-body-at.is) (sym c.is_local.ensures ∙ c.if-not-is_local.false)

@@ -10,6 +10,7 @@ returns-in-Whole g c =
       given = g.S.ByteSource.rest c.args.input.now;
       left = g.S.ByteSource.rest c.read_text.new.input;
       before = g.S.ByteSource.faults c.args.input.now;
-      now = g.S.ByteSource.faults c.read_text.new.input } in
+      now = g.S.ByteSource.faults c.read_text.new.input;
+    } in
     let read = c.in-Whole.ensures.taken in
     decided_by call _ _ _ (sym c.in-Some.ensures.value) read.0 read.1 (rw c.as_slice.ensures.value at c.due_of_text.ensures)

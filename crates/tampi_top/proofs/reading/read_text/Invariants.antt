@@ -7,7 +7,8 @@ abbrev pub invariant-loop-buffer : goal.invariant-loop-buffer
 invariant-loop-buffer g l = record {
   consumed : Consumes (g.S.ByteSource.rest l.fn.input) (g.S.ByteSource.rest l.input) l.text.items;
   later : g.S.ByteSource.faults l.fn.input ≤ g.S.ByteSource.faults l.input;
-  short : length l.text.items ≤ 1048577 }
+  short : length l.text.items ≤ 1048577;
+}
 
 abbrev pub decreases-loop-buffer : goal.decreases-loop-buffer
 decreases-loop-buffer g l = 1048577 - length l.text.items

@@ -1,5 +1,5 @@
 use Rattle.std.proofs.Common.{◌≡◌, ◌<◌, ◌^◌, true, drop}
-use Rattle.std.specs.List.{fold, list_all}
+use Rattle.std.specs.List.{list_all}
 use Rattle.std.specs.Char.{is_ascii_digit}
 use Rattle.tampi_top.specs.Words.{number_behind, number_of}
 use Rattle.tampi_top.proofs.words.number_of.Given as goal
@@ -9,4 +9,5 @@ abbrev pub invariant-loop-digit : goal.invariant-loop-digit
 invariant-loop-digit l = record {
   leads : number_behind l.number (drop l.digit-index l.digits) ≡ number_of l.digits;
   bound : l.number < 10 ^ l.digit-index;
-  digits : list_all is_ascii_digit (drop l.digit-index l.digits) ≡ true }
+  digits : list_all is_ascii_digit (drop l.digit-index l.digits) ≡ true;
+}

@@ -8,4 +8,5 @@ use Rattle.tampi_top.proofs.words.settings_of.Given as goal
 abbrev pub invariant-loop-word : goal.invariant-loop-word
 invariant-loop-word l = record {
   leads : command_of_rest l.settings (option_copied l.waiting) (map string_bytes (drop l.word-index l.words)) ≡ command_of_rest nothing_given None (map string_bytes l.words);
-  range : InRange l.settings }
+  range : InRange l.settings;
+}

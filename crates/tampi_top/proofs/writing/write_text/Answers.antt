@@ -6,7 +6,8 @@ pub loop-at-preserved : goal.loop-at-preserved
 loop-at-preserved g c = record {
   written = piece_written _ _ _ c.args.text.now c.loop-at.at c.min-end.result (omega arith) c.loop-at.invariant.written c.in-All.ensures.bytes;
   later = omega (arith, c.in-All.ensures.cause.later);
-  within = omega arith }
+  within = omega arith;
+}
 
 pub returns-in-Failed-clause-bytes : goal.returns-in-Failed-clause-bytes
 returns-in-Failed-clause-bytes g c =

@@ -1,10 +1,8 @@
 -- The book after the call of a posting, and the record.
-use Rattle.std.proofs.Common.{◌≡◌, sym, ◌∙◌, ap, subst, List, [], length, arith}
-use Rattle.rt_base.specs.declared.data.Phase.{Phase}
+use Rattle.std.proofs.Common.{◌≡◌, sym, subst, [], length, arith}
 use Rattle.match_engine.specs.Requests.{IsSend, IsReceive}
 use Rattle.core_book.proofs.BookLemmas.{few_operations, same_program}
 use Rattle.core_book.proofs.CallLemmas.{calls, call_within, call_sends, call_receives, call_is_new, call_room, call_follows, call_invariant, call_makes, call_pending, call_index, few_of_any}
-use Rattle.core_book.proofs.Questions.{phases_counted}
 use Rattle.core_book.proofs.book.Book.call.Goals as goal
 
 pub nth_at-requires-clause-few : goal.nth_at-requires-clause-few
@@ -16,34 +14,34 @@ pub post-partner-requires-clause-send : goal.post-partner-requires-clause-send
 post-partner-requires-clause-send c =
     let b = c.self.inside in
     let call = calls c.args.self.now b.program.value c.args.prog.now b.workers b.entries.items b.statuses.items b.deps.handed c.args.rec.now c.task-task.result.0 c.call_place-k.result c.task_of-def.result.now
-      c.posting_at-posting.result.how c.posting_at-posting.result.span c.posting_at-posting.result.status c.at.result c.self.view_is c.requires.same c.requires.stands c.requires.posting
-      c.task-task.ensures c.task_of-def.ensures c.at.ensures.at c.call_place-k.ensures c.posting_at-posting.ensures in
+    c.posting_at-posting.result.how c.posting_at-posting.result.span c.posting_at-posting.result.status c.at.result c.self.view_is c.requires.same c.requires.stands c.requires.posting
+    c.task-task.ensures c.task_of-def.ensures c.at.ensures.at c.call_place-k.ensures c.posting_at-posting.ensures in
     λ sends. subst (λ q. IsSend q (record { task = c.task-task.result; nth = c.nth_at.result }) (length c.args.cells.items)) (sym c.self.invariant.engine_of)
-      (call_sends b.program.value b.entries.items c.args.rec.now c.task-task.result.0 c.call_place-k.result c.task_of-def.result.now c.posting_at-posting.result.how c.posting_at-posting.result.span c.posting_at-posting.result.status c.args.cells.items c.nth_at.result call c.self.invariant.kept.well c.requires.packed c.at.ensures.cells c.nth_at.ensures sends)
+    (call_sends b.program.value b.entries.items c.args.rec.now c.task-task.result.0 c.call_place-k.result c.task_of-def.result.now c.posting_at-posting.result.how c.posting_at-posting.result.span c.posting_at-posting.result.status c.args.cells.items c.nth_at.result call c.self.invariant.kept.well c.requires.packed c.at.ensures.cells c.nth_at.ensures sends)
 
 pub post-partner-requires-clause-receive : goal.post-partner-requires-clause-receive
 post-partner-requires-clause-receive c =
     let b = c.self.inside in
     let call = calls c.args.self.now b.program.value c.args.prog.now b.workers b.entries.items b.statuses.items b.deps.handed c.args.rec.now c.task-task.result.0 c.call_place-k.result c.task_of-def.result.now
-      c.posting_at-posting.result.how c.posting_at-posting.result.span c.posting_at-posting.result.status c.at.result c.self.view_is c.requires.same c.requires.stands c.requires.posting
-      c.task-task.ensures c.task_of-def.ensures c.at.ensures.at c.call_place-k.ensures c.posting_at-posting.ensures in
+    c.posting_at-posting.result.how c.posting_at-posting.result.span c.posting_at-posting.result.status c.at.result c.self.view_is c.requires.same c.requires.stands c.requires.posting
+    c.task-task.ensures c.task_of-def.ensures c.at.ensures.at c.call_place-k.ensures c.posting_at-posting.ensures in
     λ receives. subst (λ q. IsReceive q (record { task = c.task-task.result; nth = c.nth_at.result }) × (c.args.cells.items ≡ [])) (sym c.self.invariant.engine_of)
-      (call_receives b.program.value b.entries.items c.args.rec.now c.task-task.result.0 c.call_place-k.result c.task_of-def.result.now c.posting_at-posting.result.how c.posting_at-posting.result.span c.posting_at-posting.result.status c.args.cells.items c.nth_at.result call c.requires.packed c.nth_at.ensures receives)
+    (call_receives b.program.value b.entries.items c.args.rec.now c.task-task.result.0 c.call_place-k.result c.task_of-def.result.now c.posting_at-posting.result.how c.posting_at-posting.result.span c.posting_at-posting.result.status c.args.cells.items c.nth_at.result call c.requires.packed c.nth_at.ensures receives)
 
 pub post-partner-requires-clause-fresh : goal.post-partner-requires-clause-fresh
 post-partner-requires-clause-fresh c =
     let b = c.self.inside in
     let call = calls c.args.self.now b.program.value c.args.prog.now b.workers b.entries.items b.statuses.items b.deps.handed c.args.rec.now c.task-task.result.0 c.call_place-k.result c.task_of-def.result.now
-      c.posting_at-posting.result.how c.posting_at-posting.result.span c.posting_at-posting.result.status c.at.result c.self.view_is c.requires.same c.requires.stands c.requires.posting
-      c.task-task.ensures c.task_of-def.ensures c.at.ensures.at c.call_place-k.ensures c.posting_at-posting.ensures in
+    c.posting_at-posting.result.how c.posting_at-posting.result.span c.posting_at-posting.result.status c.at.result c.self.view_is c.requires.same c.requires.stands c.requires.posting
+    c.task-task.ensures c.task_of-def.ensures c.at.ensures.at c.call_place-k.ensures c.posting_at-posting.ensures in
     call_is_new b.program.value b.workers b.deps b.memory.items b.phases.items b.engine b.notices.items b.entries.items b.statuses.items _ _ _ c.args.rec.now c.task-task.result.0 c.call_place-k.result c.task_of-def.result.now c.posting_at-posting.result.how c.posting_at-posting.result.span c.posting_at-posting.result.status c.nth_at.result c.self.invariant call c.nth_at.ensures
 
 pub tell-requires-clause-room : goal.tell-requires-clause-room
 tell-requires-clause-room c =
     let b = c.self.inside in
     let call = calls c.args.self.now b.program.value c.args.prog.now b.workers b.entries.items b.statuses.items b.deps.handed c.args.rec.now c.task-task.result.0 c.call_place-k.result c.task_of-def.result.now
-      c.posting_at-posting.result.how c.posting_at-posting.result.span c.posting_at-posting.result.status c.at.result c.self.view_is c.requires.same c.requires.stands c.requires.posting
-      c.task-task.ensures c.task_of-def.ensures c.at.ensures.at c.call_place-k.ensures c.posting_at-posting.ensures in
+    c.posting_at-posting.result.how c.posting_at-posting.result.span c.posting_at-posting.result.status c.at.result c.self.view_is c.requires.same c.requires.stands c.requires.posting
+    c.task-task.ensures c.task_of-def.ensures c.at.ensures.at c.call_place-k.ensures c.posting_at-posting.ensures in
     (call_room b.program.value b.workers b.deps b.memory.items b.phases.items b.engine b.notices.items b.entries.items b.statuses.items _ _ _ c.args.rec.now c.task-task.result.0 c.call_place-k.result c.task_of-def.result.now c.posting_at-posting.result.how c.posting_at-posting.result.span c.posting_at-posting.result.status c.self.invariant call).2
 
 pub tell-requires-clause-few : goal.tell-requires-clause-few
@@ -55,8 +53,8 @@ pub phase_after-requires-clause-within : goal.phase_after-requires-clause-within
 phase_after-requires-clause-within c =
     let b = c.self.inside in
     let call = calls c.args.self.now b.program.value c.args.prog.now b.workers b.entries.items b.statuses.items b.deps.handed c.args.rec.now c.task-task.result.0 c.call_place-k.result c.task_of-def.result.now
-      c.posting_at-posting.result.how c.posting_at-posting.result.span c.posting_at-posting.result.status c.at.result c.self.view_is c.requires.same c.requires.stands c.requires.posting
-      c.task-task.ensures c.task_of-def.ensures c.at.ensures.at c.call_place-k.ensures c.posting_at-posting.ensures in
+    c.posting_at-posting.result.how c.posting_at-posting.result.span c.posting_at-posting.result.status c.at.result c.self.view_is c.requires.same c.requires.stands c.requires.posting
+    c.task-task.ensures c.task_of-def.ensures c.at.ensures.at c.call_place-k.ensures c.posting_at-posting.ensures in
     call_within b.program.value b.entries.items c.args.rec.now c.task-task.result.0 c.call_place-k.result c.task_of-def.result.now c.posting_at-posting.result.how c.posting_at-posting.result.span c.posting_at-posting.result.status call
 
 pub phase_after-requires-clause-few : goal.phase_after-requires-clause-few
@@ -68,8 +66,8 @@ pub index_mut-requires : goal.index_mut-requires
 index_mut-requires c =
     let b = c.self.inside in
     let call = calls c.args.self.now b.program.value c.args.prog.now b.workers b.entries.items b.statuses.items b.deps.handed c.args.rec.now c.task-task.result.0 c.call_place-k.result c.task_of-def.result.now
-      c.posting_at-posting.result.how c.posting_at-posting.result.span c.posting_at-posting.result.status c.at.result c.self.view_is c.requires.same c.requires.stands c.requires.posting
-      c.task-task.ensures c.task_of-def.ensures c.at.ensures.at c.call_place-k.ensures c.posting_at-posting.ensures in
+    c.posting_at-posting.result.how c.posting_at-posting.result.span c.posting_at-posting.result.status c.at.result c.self.view_is c.requires.same c.requires.stands c.requires.posting
+    c.task-task.ensures c.task_of-def.ensures c.at.ensures.at c.call_place-k.ensures c.posting_at-posting.ensures in
     let lt = call_index b.program.value b.workers b.deps b.memory.items b.phases.items b.engine b.notices.items b.entries.items b.statuses.items _ _ _ c.args.rec.now c.task-task.result.0 c.call_place-k.result c.task_of-def.result.now c.posting_at-posting.result.how c.posting_at-posting.result.span c.posting_at-posting.result.status c.self.invariant call in
     omega arith
 
@@ -77,8 +75,8 @@ pub place_after-requires-clause-within : goal.place_after-requires-clause-within
 place_after-requires-clause-within c =
     let b = c.self.inside in
     let call = calls c.args.self.now b.program.value c.args.prog.now b.workers b.entries.items b.statuses.items b.deps.handed c.args.rec.now c.task-task.result.0 c.call_place-k.result c.task_of-def.result.now
-      c.posting_at-posting.result.how c.posting_at-posting.result.span c.posting_at-posting.result.status c.at.result c.self.view_is c.requires.same c.requires.stands c.requires.posting
-      c.task-task.ensures c.task_of-def.ensures c.at.ensures.at c.call_place-k.ensures c.posting_at-posting.ensures in
+    c.posting_at-posting.result.how c.posting_at-posting.result.span c.posting_at-posting.result.status c.at.result c.self.view_is c.requires.same c.requires.stands c.requires.posting
+    c.task-task.ensures c.task_of-def.ensures c.at.ensures.at c.call_place-k.ensures c.posting_at-posting.ensures in
     call_within b.program.value b.entries.items c.args.rec.now c.task-task.result.0 c.call_place-k.result c.task_of-def.result.now c.posting_at-posting.result.how c.posting_at-posting.result.span c.posting_at-posting.result.status call
 
 pub place_after-requires-clause-few : goal.place_after-requires-clause-few
@@ -90,43 +88,43 @@ pub go-requires-clause-follows : goal.go-requires-clause-follows
 go-requires-clause-follows c =
     let b = c.self.inside in
     let call = calls c.args.self.now b.program.value c.args.prog.now b.workers b.entries.items b.statuses.items b.deps.handed c.args.rec.now c.task-task.result.0 c.call_place-k.result c.task_of-def.result.now
-      c.posting_at-posting.result.how c.posting_at-posting.result.span c.posting_at-posting.result.status c.at.result c.self.view_is c.requires.same c.requires.stands c.requires.posting
-      c.task-task.ensures c.task_of-def.ensures c.at.ensures.at c.call_place-k.ensures c.posting_at-posting.ensures in
+    c.posting_at-posting.result.how c.posting_at-posting.result.span c.posting_at-posting.result.status c.at.result c.self.view_is c.requires.same c.requires.stands c.requires.posting
+    c.task-task.ensures c.task_of-def.ensures c.at.ensures.at c.call_place-k.ensures c.posting_at-posting.ensures in
     call_follows b.program.value b.entries.items c.args.rec.now c.task-task.result.0 c.call_place-k.result c.task_of-def.result.now c.posting_at-posting.result.how c.posting_at-posting.result.span c.posting_at-posting.result.status c.place_after.result call c.place_after.ensures
 
 pub note-requires : goal.note-requires
 note-requires c =
     let b = c.self.inside in
     let call = calls c.args.self.now b.program.value c.args.prog.now b.workers b.entries.items b.statuses.items b.deps.handed c.args.rec.now c.task-task.result.0 c.call_place-k.result c.task_of-def.result.now
-      c.posting_at-posting.result.how c.posting_at-posting.result.span c.posting_at-posting.result.status c.at.result c.self.view_is c.requires.same c.requires.stands c.requires.posting
-      c.task-task.ensures c.task_of-def.ensures c.at.ensures.at c.call_place-k.ensures c.posting_at-posting.ensures in
+    c.posting_at-posting.result.how c.posting_at-posting.result.span c.posting_at-posting.result.status c.at.result c.self.view_is c.requires.same c.requires.stands c.requires.posting
+    c.task-task.ensures c.task_of-def.ensures c.at.ensures.at c.call_place-k.ensures c.posting_at-posting.ensures in
     (call_room b.program.value b.workers b.deps b.memory.items b.phases.items b.engine b.notices.items b.entries.items b.statuses.items _ _ _ c.args.rec.now c.task-task.result.0 c.call_place-k.result c.task_of-def.result.now c.posting_at-posting.result.how c.posting_at-posting.result.span c.posting_at-posting.result.status c.self.invariant call).0
 
 pub invariant_of-self : goal.invariant_of-self
 invariant_of-self c =
     let b = c.self.inside in
     let call = calls c.args.self.now b.program.value c.args.prog.now b.workers b.entries.items b.statuses.items b.deps.handed c.args.rec.now c.task-task.result.0 c.call_place-k.result c.task_of-def.result.now
-      c.posting_at-posting.result.how c.posting_at-posting.result.span c.posting_at-posting.result.status c.at.result c.self.view_is c.requires.same c.requires.stands c.requires.posting
-      c.task-task.ensures c.task_of-def.ensures c.at.ensures.at c.call_place-k.ensures c.posting_at-posting.ensures in
+    c.posting_at-posting.result.how c.posting_at-posting.result.span c.posting_at-posting.result.status c.at.result c.self.view_is c.requires.same c.requires.stands c.requires.posting
+    c.task-task.ensures c.task_of-def.ensures c.at.ensures.at c.call_place-k.ensures c.posting_at-posting.ensures in
     call_invariant b.program.value c.args.prog.now b.workers b.deps b.memory.items b.phases.items c.deref.result.now b.engine c.post-partner.new.engine b.notices.items c.tell.new.notices.items b.entries.items c.note.new.list.items b.statuses.items _ _ _ _ _
-      c.args.rec.now c.task-task.result.0 c.call_place-k.result c.task_of-def.result.now c.posting_at-posting.result.how c.posting_at-posting.result.span c.posting_at-posting.result.status c.args.cells.items c.nth_at.result c.pending-pending.result c.phase_after.result c.post-partner.result c.self.invariant call (same_program c.args.self.now b.program.value c.args.prog.now b.workers b.entries.items b.statuses.items b.deps.handed c.self.view_is c.requires.same) c.deref.ensures.value c.nth_at.ensures c.requires.packed
-      c.post-partner.ensures.program c.post-partner.ensures.exchange c.post-partner.ensures.partner c.post-partner.ensures.before c.tell.ensures.items c.pending-pending.ensures c.phase_after.ensures c.note.ensures.items c.note.ensures.places c.tell.ensures.places
+    c.args.rec.now c.task-task.result.0 c.call_place-k.result c.task_of-def.result.now c.posting_at-posting.result.how c.posting_at-posting.result.span c.posting_at-posting.result.status c.args.cells.items c.nth_at.result c.pending-pending.result c.phase_after.result c.post-partner.result c.self.invariant call (same_program c.args.self.now b.program.value c.args.prog.now b.workers b.entries.items b.statuses.items b.deps.handed c.self.view_is c.requires.same) c.deref.ensures.value c.nth_at.ensures c.requires.packed
+    c.post-partner.ensures.program c.post-partner.ensures.exchange c.post-partner.ensures.partner c.post-partner.ensures.before c.tell.ensures.items c.pending-pending.ensures c.phase_after.ensures c.note.ensures.items c.note.ensures.places c.tell.ensures.places
 
 pub returns-clause-moves : goal.returns-clause-moves
 returns-clause-moves c =
     let b = c.self.inside in
     let call = calls c.args.self.now b.program.value c.args.prog.now b.workers b.entries.items b.statuses.items b.deps.handed c.args.rec.now c.task-task.result.0 c.call_place-k.result c.task_of-def.result.now
-      c.posting_at-posting.result.how c.posting_at-posting.result.span c.posting_at-posting.result.status c.at.result c.self.view_is c.requires.same c.requires.stands c.requires.posting
-      c.task-task.ensures c.task_of-def.ensures c.at.ensures.at c.call_place-k.ensures c.posting_at-posting.ensures in
+    c.posting_at-posting.result.how c.posting_at-posting.result.span c.posting_at-posting.result.status c.at.result c.self.view_is c.requires.same c.requires.stands c.requires.posting
+    c.task-task.ensures c.task_of-def.ensures c.at.ensures.at c.call_place-k.ensures c.posting_at-posting.ensures in
     call_makes b.program.value b.workers b.deps b.memory.items b.phases.items b.engine c.post-partner.new.engine b.notices.items b.entries.items c.note.new.list.items b.statuses.items _ _ _
-      c.args.rec.now c.go.new.self c.task-task.result.0 c.call_place-k.result c.task_of-def.result.now c.posting_at-posting.result.how c.posting_at-posting.result.span c.posting_at-posting.result.status c.args.cells.items c.nth_at.result c.pending-pending.result c.place_after.result
-      c.self.invariant call c.nth_at.ensures c.requires.packed c.post-partner.ensures.program c.post-partner.ensures.exchange c.pending-pending.ensures c.place_after.ensures c.note.ensures.items c.go.ensures c.args.self.now c.self.view_is
+    c.args.rec.now c.go.new.self c.task-task.result.0 c.call_place-k.result c.task_of-def.result.now c.posting_at-posting.result.how c.posting_at-posting.result.span c.posting_at-posting.result.status c.args.cells.items c.nth_at.result c.pending-pending.result c.place_after.result
+    c.self.invariant call c.nth_at.ensures c.requires.packed c.post-partner.ensures.program c.post-partner.ensures.exchange c.pending-pending.ensures c.place_after.ensures c.note.ensures.items c.go.ensures c.args.self.now c.self.view_is
 
 pub returns-clause-pending : goal.returns-clause-pending
 returns-clause-pending c =
     let b = c.self.inside in
     let call = calls c.args.self.now b.program.value c.args.prog.now b.workers b.entries.items b.statuses.items b.deps.handed c.args.rec.now c.task-task.result.0 c.call_place-k.result c.task_of-def.result.now
-      c.posting_at-posting.result.how c.posting_at-posting.result.span c.posting_at-posting.result.status c.at.result c.self.view_is c.requires.same c.requires.stands c.requires.posting
-      c.task-task.ensures c.task_of-def.ensures c.at.ensures.at c.call_place-k.ensures c.posting_at-posting.ensures in
+    c.posting_at-posting.result.how c.posting_at-posting.result.span c.posting_at-posting.result.status c.at.result c.self.view_is c.requires.same c.requires.stands c.requires.posting
+    c.task-task.ensures c.task_of-def.ensures c.at.ensures.at c.call_place-k.ensures c.posting_at-posting.ensures in
     call_pending b.program.value c.args.prog.now b.workers b.deps b.memory.items b.phases.items b.engine c.post-partner.new.engine b.notices.items b.entries.items b.statuses.items _ _ _
-      c.args.rec.now c.task-task.result.0 c.call_place-k.result c.task_of-def.result.now c.posting_at-posting.result.how c.posting_at-posting.result.span c.posting_at-posting.result.status c.args.cells.items c.nth_at.result c.pending-pending.result c.self.invariant call (same_program c.args.self.now b.program.value c.args.prog.now b.workers b.entries.items b.statuses.items b.deps.handed c.self.view_is c.requires.same) c.nth_at.ensures c.requires.packed c.post-partner.ensures.program c.post-partner.ensures.exchange c.pending-pending.ensures c.args.self.now c.self.view_is
+    c.args.rec.now c.task-task.result.0 c.call_place-k.result c.task_of-def.result.now c.posting_at-posting.result.how c.posting_at-posting.result.span c.posting_at-posting.result.status c.args.cells.items c.nth_at.result c.pending-pending.result c.self.invariant call (same_program c.args.self.now b.program.value c.args.prog.now b.workers b.entries.items b.statuses.items b.deps.handed c.self.view_is c.requires.same) c.nth_at.ensures c.requires.packed c.post-partner.ensures.program c.post-partner.ensures.exchange c.pending-pending.ensures c.args.self.now c.self.view_is

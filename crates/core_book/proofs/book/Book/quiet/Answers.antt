@@ -1,5 +1,5 @@
 -- No task may move where none was found that may.
-use Rattle.std.proofs.Common.{◌≡◌, refl, ◌∙◌, sym, ap, arith}
+use Rattle.std.proofs.Common.{refl, arith}
 use Rattle.core_book.specs.Legal.{final}
 use Rattle.core_book.proofs.Questions.{quiet_of_all, none_before_more}
 use Rattle.core_book.proofs.book.Book.quiet.Goals as goal

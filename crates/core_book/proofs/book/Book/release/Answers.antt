@@ -1,5 +1,5 @@
 -- The book after a release, and the record.
-use Rattle.std.proofs.Common.{◌≡◌, ◌∙◌, ap, sym, List, length, arith}
+use Rattle.std.proofs.Common.{◌≡◌, ◌∙◌, ap, List, length, arith}
 use Rattle.std.specs.Prelude.{ℤ}
 use Rattle.task_local.specs.Regions.{saved}
 use Rattle.task_local.specs.Standing.{def_of}
@@ -12,14 +12,14 @@ release-requires-clause-handed c =
     let b = c.self.inside in
     let ask = asked c.args.self.now b.program.value c.args.prog.now b.workers b.entries.items b.statuses.items b.deps.handed c.args.rec.now c.self.view_is c.requires.same c.requires.stands c.requires.enabled in
     (marks_at_release b.program.value b.workers b.deps b.memory.items b.phases.items b.engine b.notices.items b.entries.items b.statuses.items _ _ _ c.args.rec.now c.task-task.result.0 c.self.invariant
-      ask.stands c.requires.returned c.task-task.ensures).0
+    ask.stands c.requires.returned c.task-task.ensures).0
 
 pub release-requires-clause-held : goal.release-requires-clause-held
 release-requires-clause-held c =
     let b = c.self.inside in
     let ask = asked c.args.self.now b.program.value c.args.prog.now b.workers b.entries.items b.statuses.items b.deps.handed c.args.rec.now c.self.view_is c.requires.same c.requires.stands c.requires.enabled in
     (marks_at_release b.program.value b.workers b.deps b.memory.items b.phases.items b.engine b.notices.items b.entries.items b.statuses.items _ _ _ c.args.rec.now c.task-task.result.0 c.self.invariant
-      ask.stands c.requires.returned c.task-task.ensures).1
+    ask.stands c.requires.returned c.task-task.ensures).1
 
 pub count_of-from-requires : goal.count_of-from-requires
 count_of-from-requires c =
@@ -43,12 +43,12 @@ invariant_of-self c =
     let long : length c.save.new.memory ≡ length b.memory.items = c.save.auto.memory ∙ ap (λ (z : List ℤ). length z) c.deref_mut.ensures.value in
     let back = whole_back c.save.new.memory b.memory.items b.memory.len (omega arith) (omega arith) in
     release_invariant b.program.value c.args.prog.now b.workers b.deps c.release.new.self b.memory.items _ b.phases.items b.engine b.notices.items b.entries.items c.note.new.list.items b.statuses.items _ _ _ _
-      held c.task-task.result.0 c.count_of-from.result c.self.invariant (same_program l b.program.value c.args.prog.now b.workers b.entries.items b.statuses.items b.deps.handed c.self.view_is c.requires.same)
-      ask c.requires.returned c.task-task.ensures
-      (back ∙ c.save.ensures ∙ ap (saved c.args.prog.now (def_of held.program held.task) held.copy) c.deref_mut.ensures.value)
-      (ap (λ (z : List ℤ). length z) back ∙ long)
-      c.release.ensures.program c.release.ensures.handed c.release.ensures.released c.release.ensures.places
-      (c.count_of-from.ensures ∙ ap (λ l. length l) c.deref.ensures.value) c.note.ensures.items c.note.ensures.places
+    held c.task-task.result.0 c.count_of-from.result c.self.invariant (same_program l b.program.value c.args.prog.now b.workers b.entries.items b.statuses.items b.deps.handed c.self.view_is c.requires.same)
+    ask c.requires.returned c.task-task.ensures
+    (back ∙ c.save.ensures ∙ ap (saved c.args.prog.now (def_of held.program held.task) held.copy) c.deref_mut.ensures.value)
+    (ap (λ (z : List ℤ). length z) back ∙ long)
+    c.release.ensures.program c.release.ensures.handed c.release.ensures.released c.release.ensures.places
+    (c.count_of-from.ensures ∙ ap (λ l. length l) c.deref.ensures.value) c.note.ensures.items c.note.ensures.places
 
 pub returns : goal.returns
 returns c =
@@ -59,8 +59,8 @@ returns c =
     let long : length c.save.new.memory ≡ length b.memory.items = c.save.auto.memory ∙ ap (λ (z : List ℤ). length z) c.deref_mut.ensures.value in
     let back = whole_back c.save.new.memory b.memory.items b.memory.len (omega arith) (omega arith) in
     release_makes b.program.value c.args.prog.now b.workers b.deps b.memory.items _ b.phases.items b.engine b.notices.items b.entries.items c.note.new.list.items b.statuses.items _ _ _ c.release.new.self.handed
-      held c.go.new.self c.task-task.result.0 c.count_of-from.result c.self.invariant (same_program l b.program.value c.args.prog.now b.workers b.entries.items b.statuses.items b.deps.handed c.self.view_is c.requires.same)
-      ask c.requires.returned c.task-task.ensures
-      (back ∙ c.save.ensures ∙ ap (saved c.args.prog.now (def_of held.program held.task) held.copy) c.deref_mut.ensures.value)
-      (ap (λ (z : List ℤ). length z) back ∙ long) c.release.ensures.handed
-      (c.count_of-from.ensures ∙ ap (λ l. length l) c.deref.ensures.value) c.note.ensures.items c.go.ensures l c.self.view_is
+    held c.go.new.self c.task-task.result.0 c.count_of-from.result c.self.invariant (same_program l b.program.value c.args.prog.now b.workers b.entries.items b.statuses.items b.deps.handed c.self.view_is c.requires.same)
+    ask c.requires.returned c.task-task.ensures
+    (back ∙ c.save.ensures ∙ ap (saved c.args.prog.now (def_of held.program held.task) held.copy) c.deref_mut.ensures.value)
+    (ap (λ (z : List ℤ). length z) back ∙ long) c.release.ensures.handed
+    (c.count_of-from.ensures ∙ ap (λ l. length l) c.deref.ensures.value) c.note.ensures.items c.go.ensures l c.self.view_is

@@ -1,5 +1,4 @@
 -- The book after a start, and the record.
-use Rattle.std.proofs.Common.{◌≡◌, sym, ◌∙◌, ap}
 use Rattle.core_book.proofs.BookLemmas.{asked, same_program, same_handed, few_operations, room_at_start, start_invariant, start_makes}
 use Rattle.core_book.proofs.book.Book.start.Goals as goal
 
@@ -10,26 +9,26 @@ pub note-requires : goal.note-requires
 note-requires c =
     let b = c.self.inside in
     room_at_start b.program.value b.workers b.deps b.memory.items b.phases.items b.engine b.notices.items b.entries.items b.statuses.items _ _ _ c.args.rec.now c.self.invariant
-      (asked c.args.self.now b.program.value c.args.prog.now b.workers b.entries.items b.statuses.items b.deps.handed c.args.rec.now c.self.view_is c.requires.same c.requires.stands c.requires.enabled)
-      c.requires.fresh
+    (asked c.args.self.now b.program.value c.args.prog.now b.workers b.entries.items b.statuses.items b.deps.handed c.args.rec.now c.self.view_is c.requires.same c.requires.stands c.requires.enabled)
+    c.requires.fresh
 
 pub invariant_of-self : goal.invariant_of-self
 invariant_of-self c =
     let b = c.self.inside in
     let l = c.args.self.now in
     start_invariant b.program.value c.args.prog.now b.workers b.deps b.memory.items b.phases.items b.engine b.notices.items b.entries.items c.note.new.list.items b.statuses.items _ _ _ _
-      c.args.rec.now c.task-task.result.0 c.task_of-def.result.now c.stop.result c.self.invariant
-      (same_program l b.program.value c.args.prog.now b.workers b.entries.items b.statuses.items b.deps.handed c.self.view_is c.requires.same)
-      (asked l b.program.value c.args.prog.now b.workers b.entries.items b.statuses.items b.deps.handed c.args.rec.now c.self.view_is c.requires.same c.requires.stands c.requires.enabled)
-      (same_handed l b.program.value b.workers b.entries.items b.statuses.items b.deps.handed c.args.rec.now.task c.self.view_is c.requires.handed)
-      c.requires.fresh c.task-task.ensures c.task_of-def.ensures c.stop.ensures c.note.ensures.items c.note.ensures.places
+    c.args.rec.now c.task-task.result.0 c.task_of-def.result.now c.stop.result c.self.invariant
+    (same_program l b.program.value c.args.prog.now b.workers b.entries.items b.statuses.items b.deps.handed c.self.view_is c.requires.same)
+    (asked l b.program.value c.args.prog.now b.workers b.entries.items b.statuses.items b.deps.handed c.args.rec.now c.self.view_is c.requires.same c.requires.stands c.requires.enabled)
+    (same_handed l b.program.value b.workers b.entries.items b.statuses.items b.deps.handed c.args.rec.now.task c.self.view_is c.requires.handed)
+    c.requires.fresh c.task-task.ensures c.task_of-def.ensures c.stop.ensures c.note.ensures.items c.note.ensures.places
 
 pub returns : goal.returns
 returns c =
     let b = c.self.inside in
     let l = c.args.self.now in
     start_makes b.program.value c.args.prog.now b.workers b.deps b.memory.items b.phases.items b.engine b.notices.items b.entries.items c.note.new.list.items b.statuses.items _ _ _
-      c.args.rec.now c.load.new.self c.go.new.self c.task-task.result.0 c.task_of-def.result.now c.phase_before.result c.deref.result.now c.self.invariant
-      (same_program l b.program.value c.args.prog.now b.workers b.entries.items b.statuses.items b.deps.handed c.self.view_is c.requires.same)
-      (asked l b.program.value c.args.prog.now b.workers b.entries.items b.statuses.items b.deps.handed c.args.rec.now c.self.view_is c.requires.same c.requires.stands c.requires.enabled)
-      c.requires.fresh c.task-task.ensures c.task_of-def.ensures c.note.ensures.items c.deref.ensures.value c.load.ensures c.phase_before.ensures c.go.ensures l c.self.view_is
+    c.args.rec.now c.load.new.self c.go.new.self c.task-task.result.0 c.task_of-def.result.now c.phase_before.result c.deref.result.now c.self.invariant
+    (same_program l b.program.value c.args.prog.now b.workers b.entries.items b.statuses.items b.deps.handed c.self.view_is c.requires.same)
+    (asked l b.program.value c.args.prog.now b.workers b.entries.items b.statuses.items b.deps.handed c.args.rec.now c.self.view_is c.requires.same c.requires.stands c.requires.enabled)
+    c.requires.fresh c.task-task.ensures c.task_of-def.ensures c.note.ensures.items c.deref.ensures.value c.load.ensures c.phase_before.ensures c.go.ensures l c.self.view_is
