@@ -1,20 +1,20 @@
 -- A request waits in one place, or takes part in one match, and only once it is posted.
-use Rattle.std.proofs.Common.{◌≡◌, ℕ, ◌+◌, ◌≤◌, ◌<◌, Bool, true, false, ◌||◌, cond, List, [], ◌∷◌, ◌++◌, length, get_or, set, position, remove, slice_get, sum_by, count_by, option_to_list, Option, Some, None, option_map, IfSome, IsSome, is_some, sym, refl, ap, ◌∙◌, subst, arith, ◌⊎◌, inl, inr}
-use Rattle.std.proofs.lemmas.List.Sums.{sum_by_push, sum_by-set, sum_by-remove, get_or-le-sum_by, sum_by-append}
+use Rattle.std.proofs.Common.{◌≡◌, ℕ, ◌+◌, ◌≤◌, ◌<◌, Bool, true, false, ◌||◌, cond, [], length, get_or, slice_get, count_by, option_to_list, Option, Some, None, option_map, sym, refl, ap, ◌∙◌, arith}
+use Rattle.std.proofs.lemmas.List.Sums.{sum_by_push, sum_by-set, sum_by-remove, sum_by-append}
 use Rattle.std.proofs.lemmas.List.Quantifiers.{position-Some}
-use Rattle.std.proofs.lemmas.Option.{none-some, same_Some, slice_get_within, get_or_from_slice_get, slice_get-get_or}
-use Rattle.std.proofs.lemmas.Bool.{cases_Bool, or_cases, false≢true}
+use Rattle.std.proofs.lemmas.Option.{slice_get-get_or}
+use Rattle.std.proofs.lemmas.Bool.{false≢true}
 use Rattle.std.proofs.lemmas.List.{append-nil}
 use Rattle.rt_base.specs.declared.data.ReqNo.{ReqNo}
 use Rattle.rt_base.specs.declared.data.Peer.TheVariants as peer
 use Rattle.rt_base.specs.declared.data.TagSel.TheVariants as tag
 use Rattle.rt_base.specs.Matching.{Message, Receive, same_request, is_match}
-use Rattle.rt_base.specs.Exchange.{Exchange, Mailbox, Match, Posting, Sent, Asked, Nowhere, no_mail, mailbox_of, send, sent_to, receive, asked_for, element, place_of_receive, place_of_message, match_made, mailboxes_after, exchange_after, other_of}
+use Rattle.rt_base.specs.Exchange.{Exchange, Mailbox, Match, Posting, Sent, Asked, Nowhere, no_mail, mailbox_of, send, sent_to, receive, asked_for, element, place_of_receive, place_of_message, match_made, exchange_after}
 use Rattle.rt_base.specs.Completion.{is_party, is_posted}
 use Rattle.match_engine.specs.Queues.{IsPlaced}
 use Rattle.match_engine.specs.Kept.{in_mailbox, occurrences, IsAccounted}
-use Rattle.match_engine.proofs.SameRequest.{one_request, same_request-self, same_request-comm}
-use Rattle.match_engine.proofs.Postings.{IsOf, posted_after, party_of_made}
+use Rattle.match_engine.proofs.SameRequest.{one_request, same_request-comm}
+use Rattle.match_engine.proofs.Postings.{IsOf, posted_after}
 
 abbrev pub once : Bool → ℕ
 once b = cond b 1 0

@@ -1,6 +1,5 @@
 -- The call of a request of the program says all that its operation does.
-use Rattle.std.proofs.Common.{◌≡◌, ℕ, ◌≤◌, ◌<◌, Bool, true, false, cond, List, [], ◌∷◌, ℤ, length, filter, slice_get, All, Option, Some, None, option_map, option_and_then, IsSome, is_some, if◌then◌else◌, sym, refl, ap, ◌∙◌, subst}
-use Rattle.std.specs.Bool.{⊤}
+use Rattle.std.proofs.Common.{◌≡◌, ℕ, ◌<◌, true, false, List, ℤ, filter, slice_get, Option, Some, None, option_map, option_and_then, IsSome, sym, refl, ap, ◌∙◌, subst}
 use Rattle.std.proofs.lemmas.Option.{none-some, same_Some, slice_get_within, get_or_from_slice_get}
 use Rattle.std.proofs.lemmas.Bool.{false≢true}
 use Rattle.std.proofs.lemmas.List.Elements.{All-filter, All-get_or}
@@ -15,10 +14,9 @@ use Rattle.rt_base.specs.declared.data.Op.{Op}
 use Rattle.rt_base.specs.declared.data.Op.TheVariants as op
 use Rattle.rt_base.specs.declared.data.TaskDef.{TaskDef}
 use Rattle.rt_base.specs.declared.data.Program.{Program}
-use Rattle.rt_base.specs.Spans.{span_len}
 use Rattle.rt_base.specs.Operations.{posting_of, is_posting, is_receive}
-use Rattle.rt_base.specs.Exchange.{Match, Posting, Nowhere, sent_by, asked_by, posting_by, posted_by, posting_or_nowhere, posting_of_task, what_is_posted}
-use Rattle.rt_base.specs.Completion.{completes_alone, completes_at_once, status_by, cells_by, receive_status, receive_cells, empty_status}
+use Rattle.rt_base.specs.Exchange.{Match, Posting, sent_by, asked_by, posting_by, posted_by, posting_or_nowhere, posting_of_task, what_is_posted}
+use Rattle.rt_base.specs.Completion.{completes_alone, completes_at_once, status_by, cells_by}
 use Rattle.rt_base.specs.WellFormed.{WellFormed, IsTask, IsOperation, IsPeer}
 use Rattle.match_engine.specs.declared.slots.Call.{Call}
 use Rattle.match_engine.specs.Requests.{Sends, Receives, IsSend, IsReceive}

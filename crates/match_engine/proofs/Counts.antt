@@ -1,12 +1,12 @@
 -- Counts of slots.
-use Rattle.std.proofs.Common.{◌≡◌, ℕ, ◌+◌, ◌≤◌, ◌<◌, Bool, List, [], ◌∷◌, length, map, take, get_or, set, sum_by, count_by, cond, slice_get, Option, Some, None, sym, refl, ap, ◌∙◌, arith}
+use Rattle.std.proofs.Common.{◌≡◌, ℕ, ◌+◌, ◌≤◌, ◌<◌, Bool, List, [], ◌∷◌, length, map, take, get_or, set, sum_by, count_by, slice_get, Option, Some, sym, refl, ap, ◌∙◌, arith}
 use Rattle.std.proofs.lemmas.List.{map-set, get_or-map, length-map}
 use Rattle.std.proofs.lemmas.Option.{option_and_then_some, slice_get_within}
 use Rattle.std.proofs.lemmas.List.Sums.{sum_by-cons, sum_by_more_le_part, count_by-le-length}
 use Rattle.match_engine.specs.declared.slots.Slot.{Slot}
 use Rattle.rt_base.specs.declared.data.ReqNo.{ReqNo}
 use Rattle.match_engine.specs.declared.slots.Progress.{Progress}
-use Rattle.match_engine.specs.Slots.{slots_that, marked, marked_by, slot_at}
+use Rattle.match_engine.specs.Slots.{marked, marked_by, slot_at}
 
 -- a sum over a list's images
 pub sum_by-map : {X Y : Type 0} (f : Y → ℕ) (v : X → Y) (xs : List X) → sum_by f (map v xs) ≡ sum_by (λ x. f (v x)) xs

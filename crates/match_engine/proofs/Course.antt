@@ -1,23 +1,22 @@
 -- What becomes of each request when one is posted.
-use Rattle.std.proofs.Common.{◌≡◌, ℕ, ◌+◌, ◌≤◌, ◌<◌, Bool, true, false, ◌||◌, cond, List, [], ◌∷◌, ◌++◌, length, get_or, position, slice_get, sum_by, count_by, option_to_list, Option, Some, None, option_map, IfSome, IsSome, is_some, sym, refl, ap, ◌∙◌, subst, arith, ◌⊎◌, inl, inr, find}
-use Rattle.std.specs.List.{position_or_len}
+use Rattle.std.proofs.Common.{◌≡◌, ℕ, ◌+◌, ◌≤◌, Bool, true, false, ◌||◌, cond, List, [], ◌∷◌, ◌++◌, length, position, slice_get, sum_by, count_by, option_to_list, Option, Some, None, option_map, IfSome, refl, ap, ◌∙◌, subst, arith}
 use Rattle.std.proofs.lemmas.List.Sums.{get_or-le-sum_by, prefix_len-le-length}
 use Rattle.std.proofs.lemmas.List.{append-nil, length_push}
 use Rattle.std.proofs.lemmas.Grind.{common_steps}
-use Rattle.std.proofs.lemmas.List.Folds.{position_or_len_push, find_at}
+use Rattle.std.proofs.lemmas.List.Folds.{position_or_len_push}
 use Rattle.std.proofs.lemmas.List.Quantifiers.{position-Some}
-use Rattle.std.proofs.lemmas.Option.{none-some, same_Some, slice_get_within, get_or_from_slice_get, slice_get-get_or, slice_get_past}
-use Rattle.std.proofs.lemmas.Bool.{cases_Bool, cases_lt, or_from, or_left, or_right, false≢true, true_from_ne_false, cond-true, cond-false}
+use Rattle.std.proofs.lemmas.Option.{none-some, same_Some, slice_get_within, get_or_from_slice_get}
+use Rattle.std.proofs.lemmas.Bool.{or_from, or_left, or_right}
 use Rattle.rt_base.specs.declared.data.ReqNo.{ReqNo}
 use Rattle.rt_base.specs.Matching.{Message, Receive, same_request}
 use Rattle.rt_base.specs.Exchange.{Exchange, Mailbox, Match, Posting, Sent, Asked, Nowhere, no_mail, mailbox_of, element, place_of_receive, place_of_message, match_made, exchange_after, other_of, partner_of}
-use Rattle.rt_base.specs.Completion.{is_party, is_posted, match_with}
+use Rattle.rt_base.specs.Completion.{is_party, is_posted}
 use Rattle.match_engine.specs.declared.slots.Progress.{Progress}
 use Rattle.match_engine.specs.declared.slots.Progress.TheVariants.{Unposted, Waits, Matched}
 use Rattle.match_engine.specs.Slots.{progress_by, progress_of}
 use Rattle.match_engine.specs.Queues.{IsPlaced}
-use Rattle.match_engine.specs.Kept.{in_mailbox, occurrences, IsAccounted}
-use Rattle.match_engine.proofs.SameRequest.{one_request, same_request-self, same_request-comm}
+use Rattle.match_engine.specs.Kept.{in_mailbox, IsAccounted}
+use Rattle.match_engine.proofs.SameRequest.{same_request-self, same_request-comm}
 use Rattle.match_engine.proofs.Postings.{IsOf, posted_after, party_of_made, or_none}
 use Rattle.match_engine.proofs.Accounts.{once, some_message, some_receive, match}
 

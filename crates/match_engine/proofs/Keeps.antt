@@ -1,8 +1,8 @@
 -- The engine keeps its parts together.
-use Rattle.std.proofs.Common.{◌≡◌, ℕ, ◌+◌, ◌≤◌, ◌<◌, Bool, true, false, ◌&&◌, ◌||◌, cond, List, [], ◌∷◌, ◌++◌, ℤ, length, map, set, get_or, position, find, slice_get, option_to_list, Option, Some, None, option_map, IfSome, IsSome, is_some, sym, refl, ap, ◌∙◌, subst, arith, ◌⊎◌, inl, inr}
+use Rattle.std.proofs.Common.{◌≡◌, ℕ, ◌+◌, ◌≤◌, Bool, true, false, ◌&&◌, cond, List, ℤ, length, position, Option, Some, None, option_map, IfSome, IsSome, is_some, sym, refl, ap, ◌∙◌, subst, arith, ◌⊎◌, inl, inr}
 use Rattle.std.proofs.lemmas.List.{length-map, length-set}
 use Rattle.std.proofs.lemmas.Option.{none-some, same_Some}
-use Rattle.std.proofs.lemmas.Bool.{cases_Bool, cases_lt, or_cases, false≢true, both_ways, cond-true, cond-false, false_from_ne_true, and_parts}
+use Rattle.std.proofs.lemmas.Bool.{cases_Bool, or_cases, false≢true, both_ways, cond-true, cond-false, false_from_ne_true}
 use Rattle.rt_base.specs.declared.data.ReqNo.{ReqNo}
 use Rattle.rt_base.specs.declared.data.How.{How}
 use Rattle.rt_base.specs.declared.data.How.TheVariants as how
@@ -11,23 +11,22 @@ use Rattle.rt_base.specs.declared.data.Peer.TheVariants as peer
 use Rattle.rt_base.specs.declared.data.TagSel.{TagSel}
 use Rattle.rt_base.specs.declared.data.TagSel.TheVariants as tag
 use Rattle.rt_base.specs.declared.data.Program.{Program}
-use Rattle.rt_base.specs.Operations.{posting_of}
 use Rattle.rt_base.specs.Matching.{same_request}
-use Rattle.rt_base.specs.Exchange.{Exchange, Mailbox, Match, Posting, Sent, Asked, Nowhere, sent_by, asked_by, posting_by, send, receive, mailbox_of, match_made, mailboxes_after, exchange_after, other_of, partner_of}
-use Rattle.rt_base.specs.Completion.{is_party, is_posted, match_with, is_complete, completes_alone}
+use Rattle.rt_base.specs.Exchange.{Exchange, Match, Posting, Sent, Asked, Nowhere, sent_by, asked_by, posting_by, send, receive, mailbox_of, match_made, mailboxes_after, exchange_after, other_of, partner_of}
+use Rattle.rt_base.specs.Completion.{is_party, is_posted}
 use Rattle.match_engine.specs.declared.slots.Call.{Call}
 use Rattle.match_engine.specs.declared.slots.Slot.{Slot}
 use Rattle.match_engine.specs.declared.slots.Progress.{Progress}
 use Rattle.match_engine.specs.declared.slots.Progress.TheVariants.{Unposted, Waits, Matched}
-use Rattle.match_engine.specs.Queues.{Shelf, Traffic, exchange_of, room_at, taken_at, IsPlaced, HasRoomFor, HasSpent}
+use Rattle.match_engine.specs.Queues.{Shelf, Traffic, exchange_of, taken_at, IsPlaced, HasSpent}
 use Rattle.match_engine.specs.Slots.{slot_at, marked, marked_by, settled, slots_that, is_open, is_due, enters, enters_by, addresses, listens, is_unposted, call_of, slot_of, progress_of, progress_by}
 use Rattle.match_engine.specs.Kept.{IsAccounted, IsKept}
-use Rattle.match_engine.proofs.SameRequest.{one_request, same_request-self, same_request-comm, same_from_eq}
-use Rattle.match_engine.proofs.Postings.{IsOf, posted_after, posting_is_of}
+use Rattle.match_engine.proofs.SameRequest.{one_request}
+use Rattle.match_engine.proofs.Postings.{IsOf, posted_after}
 use Rattle.match_engine.proofs.Accounts.{accounted_after, once}
-use Rattle.match_engine.proofs.Course.{IsPartner, partner_before, progress_other, progress_alone, progress_taken, progress_partner}
+use Rattle.match_engine.proofs.Course.{partner_before, progress_other, progress_alone, progress_taken, progress_partner}
 use Rattle.match_engine.proofs.Marks.{slot_at-marked, slots_that-marked, got_to}
-use Rattle.match_engine.proofs.Calls.{posted_as, call_placed}
+use Rattle.match_engine.proofs.Calls.{posted_as}
 
 -- the number of mailboxes stays
 mailboxes_kept : (exchange : Exchange) (posting : Posting) → length (mailboxes_after exchange posting) ≡ length exchange.mailboxes

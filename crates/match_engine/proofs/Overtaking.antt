@@ -1,17 +1,17 @@
 -- Nothing overtakes in a run of postings, and nothing that matches is left.
-use Rattle.std.proofs.Common.{◌≡◌, ℕ, ◌+◌, ◌≤◌, ◌<◌, Bool, true, false, List, [], ◌∷◌, ◌++◌, length, map, get_or, set, replicate, remove, position, slice_get, All, Contains, Option, Some, None, option_map, option_to_list, sym, refl, ap, ◌∙◌, subst, arith, ◌⊎◌, inl, inr}
+use Rattle.std.proofs.Common.{◌≡◌, ℕ, ◌≤◌, ◌<◌, Bool, true, false, List, [], ◌∷◌, ◌++◌, length, map, get_or, set, replicate, remove, slice_get, All, Contains, Option, Some, None, option_map, option_to_list, sym, refl, ap, ◌∙◌, subst, arith, ◌⊎◌, inl, inr}
 use Rattle.std.proofs.Math.ListN.{get_or-eq_default}
 use Rattle.std.proofs.lemmas.List.{get_or-set_same, get_or-set_other, length-set, length-replicate, append_assoc, append-nil, map-append, get_or-replicate}
 use Rattle.std.proofs.lemmas.List.Elements.{All-contains, Contains-push_cases}
 use Rattle.std.proofs.lemmas.List.Quantifiers.{position-Some}
 use Rattle.std.proofs.lemmas.Option.{none-some, same_Some, get_or_from_slice_get, slice_get_within, slice_get-get_or}
-use Rattle.std.proofs.lemmas.Bool.{cases_lt, cases_eq, both_ways, false≢true, true≢false}
+use Rattle.std.proofs.lemmas.Bool.{cases_lt, cases_eq, both_ways, false≢true}
 use Rattle.rt_base.specs.declared.data.ReqNo.{ReqNo}
 use Rattle.std.specs.List.{list_any}
 use Rattle.rt_base.specs.Matching.{Message, Receive, is_match, same_request}
 use Rattle.rt_base.specs.Exchange.{Exchange, Mailbox, Match, Posting, Sent, Asked, Nowhere, no_mail, silent, mailbox_of, send, sent_to, receive, asked_for, element, place_of_receive, place_of_message, match_made, mailboxes_after, exchange_after}
 use Rattle.rt_base.specs.Completion.{is_posted}
-use Rattle.match_engine.specs.Laws.{Posted, IsOwn, after, AreNew, sends, asks, IsEarlier, IsAt, Makes, posted_with, NothingMatchesIsLeft, MessagesDoNotOvertake, ReceivesDoNotOvertake}
+use Rattle.match_engine.specs.Laws.{Posted, IsOwn, after, AreNew, sends, asks, IsEarlier, IsAt, NothingMatchesIsLeft, MessagesDoNotOvertake, ReceivesDoNotOvertake}
 use Rattle.match_engine.proofs.Accounts.{some_message, some_receive, match}
 use Rattle.match_engine.proofs.Orders.{place, old_place, InOrder, none_in_order, oldest_is_taken, Apart, Sides, swapped, elsewhere, waits_here, takes_here, nothing_apart, apart_waits, apart_takes, apart_swapped}
 

@@ -1,29 +1,26 @@
 -- What the engine's calls answer.
-use Rattle.std.proofs.Common.{◌≡◌, ℕ, ◌+◌, ◌*◌, ◌≤◌, ◌<◌, ◌^◌, Bool, true, false, ◌&&◌, ◌||◌, cond, List, [], ◌∷◌, ◌++◌, ℤ, length, map, filter, replicate, position, find, slice_get, sum_by, count_by, option_to_list, Option, Some, None, option_map, option_and_then, IfSome, IsSome, is_some, sym, refl, ap, ◌∙◌, subst, arith, ◌⊎◌, inl, inr, zero, suc, nat_lt, ◌==◌}
+use Rattle.std.proofs.Common.{◌≡◌, ℕ, ◌≤◌, ◌<◌, ◌^◌, Bool, true, false, ◌&&◌, ◌||◌, cond, List, [], ◌∷◌, ℤ, length, filter, position, find, slice_get, sum_by, option_to_list, Option, Some, None, option_map, option_and_then, IfSome, IsSome, is_some, sym, refl, ap, ◌∙◌, subst, arith, ◌⊎◌, inl, inr, zero, suc, ◌==◌}
 use Rattle.std.specs.List.{position_or_len}
 use Rattle.std.proofs.lemmas.List.{length-map, length-replicate}
 use Rattle.std.proofs.lemmas.List.Folds.{find_at, sum_by-replicate}
 use Rattle.std.proofs.lemmas.List.Sums.{length-filter, sum_by-cons}
-use Rattle.std.proofs.lemmas.Option.{none-some, same_Some, slice_get_past, slice_get-map}
-use Rattle.std.proofs.lemmas.Bool.{cases_Bool, cases_lt, lt-ltb, le-ltb, or_left, or_right, false≢true, and_parts, false_from_ne_true, ne_eqb, cond-false}
+use Rattle.std.proofs.lemmas.Option.{slice_get_past, slice_get-map}
+use Rattle.std.proofs.lemmas.Bool.{cases_lt, lt-ltb, le-ltb, or_left, or_right, false≢true, and_parts, false_from_ne_true, ne_eqb, cond-false}
 use Rattle.rt_base.specs.declared.data.ReqNo.{ReqNo}
-use Rattle.rt_base.specs.declared.data.Op.{Op}
-use Rattle.rt_base.specs.declared.data.Status.{Status}
 use Rattle.rt_base.specs.declared.data.TaskDef.{TaskDef}
 use Rattle.rt_base.specs.declared.data.Program.{Program}
 use Rattle.rt_base.specs.Operations.{posting_of, postings, is_posting}
 use Rattle.rt_base.specs.Matching.{same_request}
-use Rattle.rt_base.specs.Exchange.{Exchange, Mailbox, Match, Posting, Sent, Asked, Nowhere, no_mail, silent, element, match_made, exchange_after, other_of, partner_of, what_is_posted, post, partner, sent_by, asked_by}
+use Rattle.rt_base.specs.Exchange.{Exchange, Match, Posting, Sent, Asked, Nowhere, no_mail, silent, element, match_made, exchange_after, other_of, partner_of, what_is_posted, post, partner, sent_by, asked_by}
 use Rattle.rt_base.specs.Completion.{is_party, is_posted, match_with, is_complete, completes_alone, completes_at_once, request_status, request_cells}
 use Rattle.rt_base.specs.WellFormed.{WellFormed}
 use Rattle.match_engine.specs.declared.slots.Call.{Call}
 use Rattle.match_engine.specs.declared.slots.Slot.{Slot}
-use Rattle.match_engine.specs.declared.slots.Progress.{Progress}
-use Rattle.match_engine.specs.declared.slots.Progress.TheVariants.{Unposted, Waits, Matched}
+use Rattle.match_engine.specs.declared.slots.Progress.TheVariants.{Unposted, Waits}
 use Rattle.match_engine.specs.Switch.{Switch}
 use Rattle.match_engine.specs.Requests.{IsSend, IsReceive}
 use Rattle.match_engine.specs.Queues.{Shelf, Traffic, exchange_of, room_at, taken_at, IsPlaced, HasRoomFor, HasSpent}
-use Rattle.match_engine.specs.Slots.{slot_at, marked, settled, slots_that, is_open, is_due, is_unposted, enters, call_by, call_of, slot_of, progress_of, progress_by, fresh_slot, fresh_row, fresh_slots, match_of, complete_by, call_status, call_cells}
+use Rattle.match_engine.specs.Slots.{slot_at, settled, slots_that, is_open, is_due, call_by, call_of, slot_of, progress_of, progress_by, fresh_slot, fresh_row, fresh_slots, match_of, complete_by, call_status, call_cells}
 use Rattle.match_engine.specs.Kept.{IsAccounted, IsKept, in_mailbox}
 use Rattle.match_engine.proofs.Counts.{sum_by-map}
 use Rattle.match_engine.proofs.SameRequest.{same_request-self}

@@ -1,5 +1,5 @@
 -- What a posting makes of the queues, the postings and the matches that are kept.
-use Rattle.std.proofs.Common.{◌≡◌, ℕ, ◌+◌, ◌≤◌, ◌<◌, List, [], ◌∷◌, ◌++◌, length, map, get_or, set, position, Option, Some, None, option_map, option_to_list, slice_index_or, sym, refl, ap, ◌∙◌, subst, arith, inl, inr, replicate, zero-add, ◌==◌, if◌then◌else◌}
+use Rattle.std.proofs.Common.{◌≡◌, ℕ, ◌+◌, ◌≤◌, ◌<◌, List, [], ◌∷◌, ◌++◌, length, map, get_or, set, Option, Some, None, option_map, option_to_list, sym, refl, ap, ◌∙◌, subst, arith, inl, inr, replicate, zero-add, ◌==◌, if◌then◌else◌}
 use Rattle.std.proofs.lemmas.List.{map-set, get_or-map, get_or-set_same, get_or-set_other, length-map, append-nil, map-append, replicate_more}
 use Rattle.std.proofs.lemmas.List.FromFn.{map-range_with_len_more}
 use Rattle.std.specs.List.{range_with_len}
@@ -7,7 +7,7 @@ use Rattle.std.proofs.lemmas.Bool.{cases_eq, cond-true, eq-eqb}
 use Rattle.rt_base.specs.declared.data.ReqNo.{ReqNo}
 use Rattle.rt_base.specs.Listing.{Listing}
 use Rattle.rt_base.specs.Matching.{Message, Receive}
-use Rattle.rt_base.specs.Exchange.{Mailbox, Match, Exchange, Posting, Sent, Asked, Nowhere, no_mail, send, receive, element, place_of_receive, place_of_message, exchange_after, mailbox_of}
+use Rattle.rt_base.specs.Exchange.{Mailbox, Match, Exchange, Posting, Sent, Asked, no_mail, send, receive, element, place_of_receive, place_of_message, exchange_after}
 use Rattle.match_engine.specs.Queues.{Shelf, Traffic, exchange_of, room_at, taken_at, HasSpent, HasRoomFor}
 
 abbrev match : Message → Receive → Match

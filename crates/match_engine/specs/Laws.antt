@@ -1,5 +1,5 @@
 -- What follows from the definition of a posting, whoever computes it.
-use Rattle.std.specs.Prelude.{◌≡◌, ℕ, ◌<◌, true, false, List, [], ◌∷◌, ◌++◌, length, map, Contains, Option, Some, ⊤}
+use Rattle.std.specs.Prelude.{◌≡◌, ℕ, ◌<◌, true, false, List, [], ◌∷◌, ◌++◌, map, Contains, Some, ⊤}
 use Rattle.std.specs.List.{position_or_len}
 use Rattle.rt_base.specs.declared.data.ReqNo.{ReqNo}
 use Rattle.rt_base.specs.Matching.{Message, Receive, is_match, same_request}

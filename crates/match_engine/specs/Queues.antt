@@ -1,6 +1,6 @@
 -- How the engine keeps the exchange: the queues of each rank, what was posted and what was matched, all with reserved room.
 -- No public clause cites this module.
-use Rattle.std.specs.Prelude.{◌≡◌, ℕ, ◌+◌, ◌≤◌, ◌<◌, ◌==◌, List, map, slice_index, if◌then◌else◌, ⊤}
+use Rattle.std.specs.Prelude.{ℕ, ◌+◌, ◌≤◌, ◌<◌, ◌==◌, List, map, slice_index, if◌then◌else◌, ⊤}
 use Rattle.rt_base.specs.declared.data.ReqNo.{ReqNo}
 use Rattle.rt_base.specs.Listing.{Listing}
 use Rattle.rt_base.specs.Exchange.{Mailbox, Match, Exchange, Posting, Sent, Asked, Nowhere}

@@ -1,5 +1,5 @@
 //! Which message a receive takes, and the statuses, by the examples of MPI 4.0, chapter 3.
-ghost use Rattle.std.specs.Prelude.{◌≡◌};
+ghost use Rattle.std.specs.Prelude.{◌≡◌, IfOk};
 
 use crate::completion::{is_complete, status};
 use crate::mail::{Match, Message, Receive};
@@ -27,6 +27,19 @@ fn message(alloc: Global, nth: u32, comm: u16, source: u16, tag: u16) -> Message
         tag,
         cells,
     }
+}
+
+// Five messages wait: of communicator, source and tag 0 1 5, 0 1 6, 0 2 6, 1 1 5 and 0 1 5.
+fn with_mail(alloc: Global) -> Result<Queues, AllocError>
+    ensures { IfOk result (λ queues. queues.room ≡ 1) }
+{
+    let mut queues = Queues::with_room(alloc, 6)?;
+    let _ = queues.send(message(alloc, 0, 0, 1, 5));
+    let _ = queues.send(message(alloc, 1, 0, 1, 6));
+    let _ = queues.send(message(alloc, 2, 0, 2, 6));
+    let _ = queues.send(message(alloc, 3, 1, 1, 5));
+    let _ = queues.send(message(alloc, 4, 0, 1, 5));
+    Ok(queues)
 }
 
 // The posting of this kind, of cells 10 up to but not including 10 + count.
@@ -59,17 +72,7 @@ fn a_receive_takes_the_oldest_message_that_it_accepts(rt: HostRuntime) -> Result
         (0, Peer::Rank(1), TagSel::Tag(5), Some(0)),
     ];
     for (comm, source, tag, want) in rows {
-        let mut queues = Queues::with_room(alloc, 6)?;
-        for (nth, comm, source, tag) in [
-            (0, 0, 1, 5),
-            (1, 0, 1, 6),
-            (2, 0, 2, 6),
-            (3, 1, 1, 5),
-            (4, 0, 1, 5),
-        ] {
-            let taken = queues.send(message(alloc, nth, comm, source, tag));
-            assert_eq!(rt; taken.is_none(), true);
-        }
+        let mut queues = with_mail(alloc)?;
         let wish = Receive {
             request: request(9),
             comm,

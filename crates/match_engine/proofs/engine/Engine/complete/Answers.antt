@@ -1,4 +1,4 @@
-use Rattle.std.proofs.Common.{sym, ◌∙◌, ap}
+use Rattle.std.proofs.Common.{sym, ◌∙◌}
 use Rattle.match_engine.proofs.Replies.{complete_for, none_for}
 use Rattle.match_engine.proofs.engine.Engine.complete.Goals as goal
 

@@ -1,5 +1,5 @@
 use Rattle.std.proofs.Common.{[]}
-use Rattle.match_engine.proofs.Replies.{finds_receive, placed_for, room_for, partner_slot, kept_for, exchange_for, partner_for, before_for, completed_for}
+use Rattle.match_engine.proofs.Replies.{finds_receive, room_for, partner_slot, kept_for, exchange_for, partner_for, before_for, completed_for}
 use Rattle.match_engine.proofs.engine.Engine.post_recv.Goals as goal
 
 pub post_receive-partner-requires-clause-room : goal.post_receive-partner-requires-clause-room
