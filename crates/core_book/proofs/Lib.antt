@@ -15,3 +15,4 @@ pub mod Others
 pub mod Lines
 pub mod Before
 pub mod Picks
+pub mod Calls

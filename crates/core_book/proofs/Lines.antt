@@ -26,11 +26,11 @@ use Rattle.core_book.proofs.After.{phases_after}
 use Rattle.core_book.proofs.BookLemmas.{def_is}
 use Rattle.core_book.proofs.Others.{IsAble, OnlyMoves, move_others, stop_able, all_at}
 
-same_some : {X : Type 0} {a b : X} → Some a ≡ Some b → a ≡ b
+pub same_some : {X : Type 0} {a b : X} → Some a ≡ Some b → a ≡ b
 same_some e = cc
 
 -- a place that is either this one or another
-either_place : (u t : ℕ) → (u ≡ t) ⊎ (u ≢ t)
+pub either_place : (u t : ℕ) → (u ≡ t) ⊎ (u ≢ t)
 either_place zero zero = inl refl
 either_place zero (suc t) = inr (λ e. absurd (omega arith))
 either_place (suc u) zero = inr (λ e. absurd (omega arith))
@@ -204,7 +204,7 @@ fresh_more p recs held t fresh counted same mine waits = λ u x there. elim (pus
 ]
 
 -- what stands in a list of equal items
-at_replicate : {X : Type 0} (n : ℕ) (y : X) (i : ℕ) → i < n → slice_get (replicate n y) i ≡ Some y
+pub at_replicate : {X : Type 0} (n : ℕ) (y : X) (i : ℕ) → i < n → slice_get (replicate n y) i ≡ Some y
 at_replicate zero y i within = absurd (omega arith)
 at_replicate (suc n) y zero within = refl
 at_replicate (suc n) y (suc i) within = at_replicate n y i (omega arith)

@@ -4,3 +4,4 @@ pub mod Ledger
 pub mod Plain
 pub mod Kept
 pub mod Turns
+pub mod Laws

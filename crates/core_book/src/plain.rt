@@ -15,7 +15,7 @@ use std::alloc::{AllocError, Global};
 use task_local::{At, TaskRec};
 
 /// Runs the program on one thread over a book, until no task may move. Takes memory for all records first, and then for the cells of each send.
-/// Its time grows with the number of moves times the number of tasks.
+/// For each move it looks at all tasks, and while some wait at the pairs of them and of their accesses.
 pub fn run_plainly(alloc: Global, prog: &Program) -> Result<BookEnd, AllocError>
     requires well_formed { WellFormed prog.now }
     requires plain { IsPlain prog.now }
