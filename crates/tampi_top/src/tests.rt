@@ -162,6 +162,34 @@ fn a_failed_read_is_told(rt: HostRuntime) -> Result<(), Fail> {
     Ok(())
 }
 
+// A text of 5,000 blanks is read in two pieces of at most 4,096 bytes; read number 2 finds the end, and none follows it.
+#[test]
+fn reads_are_of_4096_bytes(rt: HostRuntime) -> Result<(), Fail> {
+    let alloc = rt.alloc();
+    let rows: [(u32, u8, &[u8]); 3] = [
+        (1, 4, b"read fault\n"),
+        (2, 4, b"read fault\n"),
+        (3, 0, b"finished\n"),
+    ];
+    let words = words_of(alloc, "run")?;
+    for (call, status, told) in rows {
+        let blanks = vec![in alloc; b' '; 5_000]?;
+        let mut input = FakeSource::new(blanks, 10_000, [call].to_vec(alloc)?);
+        let mut out = MemSink::new(alloc, 100)?;
+        let outcome = tampi(
+            &rt,
+            alloc,
+            words.as_slice(),
+            &mut input,
+            &mut out,
+            &OpenGate,
+        );
+        assert_eq!(rt; outcome.status, status);
+        assert_eq!(rt; out.bytes(), told);
+    }
+    Ok(())
+}
+
 #[test]
 fn a_failed_write_leaves_a_front(rt: HostRuntime) -> Result<(), Fail> {
     let alloc = rt.alloc();
