@@ -1,1 +1,11 @@
-pub mod Offers
+pub mod Counting
+pub mod QueueLemmas
+pub mod LayoutLemmas
+pub mod LinkLemmas
+pub mod BoundLemmas
+pub mod RegionLemmas
+pub mod EpochLemmas
+pub mod Precedence
+pub mod Starts
+pub mod Releases
+pub mod Beginnings

@@ -1,2 +1,8 @@
 pub mod Readiness
-pub mod Ordering
+pub mod Links
+pub mod Queues
+pub mod Clashes
+pub mod Segments
+pub mod Lines
+pub mod Epochs
+pub mod Holding

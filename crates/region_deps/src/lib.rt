@@ -1,7 +1,14 @@
 //! Which task may start: the order that regions and taskwaits ask of the tasks of a program.
 #![tactic(auto)]
 
+mod bounds;
 mod deps;
+mod epochs;
+mod graph;
 mod order;
+mod regions;
+#[cfg(test)]
+mod scan;
+mod segments;
 
 pub use deps::Deps;

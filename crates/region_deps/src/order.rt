@@ -1,142 +1,90 @@
-//! What of a task decides on its order among the others, and the look at all earlier tasks.
+//! How a graph lays out its links: by source, with a place for each source and a count for each task.
 
-ghost use Rattle.std.specs.Prelude.{◌≡◌, ℕ, ◌<◌, ◌↔◌, Bool, Any, IsTrue, IfOk, IfSome, IfNone, length, map, false, ◌||◌, slice_get, Some};
-ghost use Rattle.rt_base.specs.Spans.{Overlaps, is_written};
-ghost use Rattle.rt_base.specs.Precedes.{Conflict};
-ghost use Rattle.region_deps.specs.Ordering.{Facts, facts_of, SharesFacts, IsBefore, IsFree, IsOffered};
+ghost use Rattle.std.specs.Prelude.{◌≡◌, ℕ, ◌+◌, ◌<◌, ◌≤◌, List, Bool, All, IfOk, OnOk, length, count_by, true, false, replicate, slice_index_or, ◌++◌, vec_len, vec_capacity};
+ghost use Rattle.std.specs.List.Sorted.{IsPermutation, IsNonDecreasingBy};
+ghost use Rattle.region_deps.specs.Links.{IsWithin, is_to};
+ghost use Rattle.region_deps.specs.Queues.{IsQueued, HasRoom, HasPlace, IsPlace, offered};
 
-use rt_base::{Access, Mode, Span, TaskDef};
+use crate::graph::Link;
 use std::alloc::{AllocError, Global};
-use std::marker::Model;
 
-/// What of a task decides on its order: its rank, its epoch and its accesses.
-#[derive(Drop)]
-pub struct Order {
-    rank: u16,
-    epoch: u32,
-    accesses: Vec<Access>,
+/// Puts the links in the order of their sources. Takes no memory.
+pub fn arrange(links: &mut Vec<Link>)
+    ensures same { IsPermutation links.old.items links.new.items }
+    ensures sorted { IsNonDecreasingBy (λ (l : Link). l.source) links.new.items }
+{
+    links.sort_unstable_by_key(|link| link.source);
 }
 
-impl Model for Order {
-    ghost use Rattle.region_deps.specs.Ordering.{Facts};
-
-    ghost Value = { Facts };
-
-    ghost view = { λ o. record { rank = o.rank; epoch = o.epoch; accesses = o.accesses.items } };
+// How many links come from sources with a lower number.
+fn place(links: &[Link], source: u32) -> usize
+    requires sorted { IsNonDecreasingBy (λ (l : Link). l.source) links.now }
+    ensures { IsPlace links.now source result }
+{
+    links.partition_point(|link| link.source < source)
 }
 
-impl Order {
-    /// What decides on the order of this task.
-    pub fn of(alloc: Global, task: &TaskDef) -> Result<Order, AllocError>
-        ensures { IfOk result (λ order. order ≡ facts_of task.now) }
-    {
-        let accesses = task.accesses.as_slice().to_vec(alloc)?;
-        Ok(Order {
-            rank: task.rank,
-            epoch: task.epoch,
-            accesses,
-        })
+/// Where the links of each source begin, and where those of the last one end.
+pub fn places(alloc: Global, links: &[Link], sources: usize) -> Result<Vec<usize>, AllocError>
+    requires sorted { IsNonDecreasingBy (λ (l : Link). l.source) links.now }
+    requires numbered { sources < 4294967296 }
+    ensures length { IfOk result (λ first. length first.items ≡ sources + 1) }
+    ensures place { IfOk result (λ first. (source : ℕ) → source < sources → HasPlace links.now first.items source) }
+{
+    let mut first = Vec::with_capacity(alloc, sources + 1)?;
+    for source in 0..sources + 1 {
+        first.push(place(links, source as u32))?;
     }
+    Ok(first)
+}
 
-    /// Whether the later task has to wait for this one. Looks at each pair of accesses.
-    pub fn is_before(&self, later: &Order) -> bool
-        ensures { IsTrue result ↔ IsBefore self.now later.now }
-    {
-        if self.rank != later.rank {
-            return false;
-        }
-        shares_regions(&self.accesses, &later.accesses) || self.epoch < later.epoch
+/// For so many places, that it is true of none.
+pub fn none_yet(alloc: Global, places: usize) -> Result<Vec<bool>, AllocError>
+    ensures { IfOk result (λ marks. marks.items ≡ replicate places false) }
+{
+    Ok(vec![in alloc; false; places]?)
+}
+
+/// For so many places, a count of 0.
+pub fn zeros(alloc: Global, places: usize) -> Result<Vec<usize>, AllocError>
+    ensures { IfOk result (λ counts. counts.items ≡ replicate places 0) }
+{
+    Ok(vec![in alloc; 0usize; places]?)
+}
+
+/// How many links lead to each task.
+pub fn counts(alloc: Global, links: &[Link], tasks: usize) -> Result<Vec<usize>, AllocError>
+    requires { All (λ (l : Link). l.task < tasks) links.now }
+    ensures length { IfOk result (λ left. length left.items ≡ tasks) }
+    ensures counted { IfOk result (λ left. (task : ℕ) → task < tasks → slice_index_or left.items task 1 ≡ count_by (is_to task) links.now) }
+{
+    let mut left = zeros(alloc, tasks)?;
+    for link in links {
+        left[link.task as usize] += 1;
     }
+    Ok(left)
 }
 
-/// Whether the two spans name one array and share a cell.
-fn overlaps(one: &Span, other: &Span) -> bool
-    ensures { IsTrue result ↔ Overlaps one.now other.now }
+// Adds the task where nothing holds it.
+fn offer(startable: &mut Vec<u32>, task: u32, left: usize) -> Result<(), AllocError>
+    ensures added { OnOk result (startable.new.items ≡ startable.old.items ++ offered task left) }
+    ensures room { vec_capacity startable.old ≤ vec_capacity startable.new }
 {
-    one.array == other.array && one.from.max(other.from) < one.to.min(other.to)
-}
-
-/// Whether a task may change the cells of such an access.
-fn is_written(mode: Mode) -> bool
-    ensures { result ≡ is_written mode }
-{
-    match mode {
-        Mode::In => false,
-        Mode::Out => true,
-        Mode::Inout => true,
+    if left == 0 {
+        startable.push(task)?;
     }
+    Ok(())
 }
 
-/// Whether the regions overlap and at least one of them is written.
-fn conflicts(one: &Access, other: &Access) -> bool
-    ensures { IsTrue result ↔ Conflict one.now other.now }
+/// The tasks that nothing holds, with room for the others.
+pub fn idle(alloc: Global, left: &[usize]) -> Result<Vec<u32>, AllocError>
+    requires { length left.now < 4294967296 }
+    ensures queued { IfOk result (λ startable. IsQueued left.now (replicate (length left.now) false) startable.items) }
+    ensures room { IfOk result (λ startable. HasRoom left.now startable.items (vec_capacity startable)) }
 {
-    overlaps(&one.span, &other.span) && (is_written(one.mode) || is_written(other.mode))
-}
-
-/// Whether the region conflicts with some region of the task.
-fn conflicts_with(one: &Access, accesses: &[Access]) -> bool
-    ensures { IsTrue result ↔ Any (λ other. Conflict one.now other) accesses.now }
-{
-    accesses.iter().any(|other| conflicts(one, other))
-}
-
-/// Whether some region of the earlier task conflicts with some region of the later one.
-fn shares_regions(earlier: &[Access], later: &[Access]) -> bool
-    ensures { IsTrue result ↔ SharesFacts earlier.now later.now }
-{
-    earlier.iter().any(|one| conflicts_with(one, later))
-}
-
-/// Whether the task has to wait for none of the earlier ones. Looks at all of them and at all their accesses.
-pub fn is_free(tasks: &[Order], released: &[bool], task: usize, later: &Order) -> bool
-    requires known { task < length tasks.now }
-    requires whole { length released.now ≡ length tasks.now }
-    ensures { IsTrue result ↔ IsFree tasks.now released.now task later.now }
-{
-    for earlier in 0..task {
-        if !released[earlier] && tasks[earlier].is_before(later) {
-            return false;
-        }
+    let mut startable = Vec::with_capacity(alloc, left.len())?;
+    for task in 0..left.len() {
+        offer(&mut startable, task as u32, left[task])?;
     }
-    true
-}
-
-/// Whether the task was not handed out and has to wait for none.
-fn is_offered(tasks: &[Order], handed: &[bool], released: &[bool], task: usize) -> bool
-    requires known { task < length tasks.now }
-    requires handed { length handed.now ≡ length tasks.now }
-    requires released { length released.now ≡ length tasks.now }
-    ensures { IsTrue result ↔ IsOffered tasks.now handed.now released.now task }
-{
-    if handed[task] {
-        return false;
-    }
-    is_free(tasks, released, task, &tasks[task])
-}
-
-/// The first task that was not handed out and has to wait for none. Looks at all pairs of tasks and accesses.
-pub fn first_offered(tasks: &[Order], handed: &[bool], released: &[bool]) -> Option<usize>
-    requires handed { length handed.now ≡ length tasks.now }
-    requires released { length released.now ≡ length tasks.now }
-    ensures some { IfSome result (λ task. (task < length tasks.now) × IsOffered tasks.now handed.now released.now task) }
-    ensures none { IfNone result ((t : ℕ) → ¬ IsOffered tasks.now handed.now released.now t) }
-{
-    for task in 0..tasks.len() {
-        if is_offered(tasks, handed, released, task) {
-            return Some(task);
-        }
-    }
-    None
-}
-
-/// What decides on the order of each task.
-pub fn orders(alloc: Global, tasks: &[TaskDef]) -> Result<Vec<Order>, AllocError>
-    ensures { IfOk result (λ orders. orders.items ≡ map facts_of tasks.now) }
-{
-    let mut orders = Vec::with_capacity(alloc, tasks.len())?;
-    for task in tasks {
-        orders.push(Order::of(alloc, task)?)?;
-    }
-    Ok(orders)
+    Ok(startable)
 }

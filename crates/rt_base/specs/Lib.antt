@@ -12,3 +12,7 @@ pub mod WellFormed
 pub mod Adapting
 pub mod InMemory
 pub mod Outside
+pub mod Touched
+pub mod InUse
+pub mod Pieces
+pub mod Whole

@@ -1,5 +1,6 @@
 -- What holds of every program that is run. The limits are this project's own.
-use Rattle.std.specs.Prelude.{◌≡◌, ◌≢◌, ℕ, ◌+◌, ◌*◌, ◌^◌, ◌<◌, ◌≤◌, Bool, true, List, length, All, AllPairs, Any, sum, sum_by, count_by, filter, slice_index_or, ℤ, pos, ◌≤ℤ◌, Option, Some, None, ⊤}
+-- What the language asks beside this is in `Whole`; the programs of today's form keep to it, and no clause asks it yet.
+use Rattle.std.specs.Prelude.{◌≡◌, ◌≢◌, ℕ, ◌+◌, ◌*◌, ◌^◌, ◌<◌, ◌≤◌, Bool, true, false, List, [], ◌∷◌, ◌++◌, length, Contains, All, AllPairs, Any, sum, sum_by, count_by, filter, slice_index_or, ℤ, pos, ◌≤ℤ◌, Option, Some, None, ⊤, if◌then◌else◌}
 use Rattle.std.specs.List.{list_any}
 use Rattle.rt_base.specs.declared.data.Span.{Span}
 use Rattle.rt_base.specs.declared.data.Access.{Access}
@@ -20,6 +21,7 @@ use Rattle.rt_base.specs.declared.data.Program.{Program}
 use Rattle.rt_base.specs.Spans.{span_len, Covers, Overlaps, is_written}
 use Rattle.rt_base.specs.Layout.{array_count, array_len, memory_len}
 use Rattle.rt_base.specs.Operations.{postings, is_receive}
+use Rattle.rt_base.specs.InUse.{left_after, is_in_use}
 
 -- the bounds are in order, and a span that isn't empty lies in an array of the rank
 pub record IsSpan (program : Program) (rank : ℕ) (span : Span) : Type 0 where
@@ -130,6 +132,27 @@ IsOperation program task (op.Post kind span whom selected comm status) =
 IsOperation program task (op.Await later handles status) =
     OfSpan (λ cells. MayWrite program task cells × (span_len cells ≡ 4 * length handles.items)) status
 
+-- a handle names a request that was posted, was not waited for in the call, and was not named by a wait before (MPI 4.0, 3.7.3)
+abbrev pub IsOpen : List Op → Handle → Type 0
+IsOpen earlier handle.Null = ⊤
+IsOpen earlier (handle.Nth n) = Contains (left_after 0 earlier) n
+
+-- two handles name different requests, or none
+abbrev pub NamesOther : Handle → Handle → Type 0
+NamesOther handle.Null other = ⊤
+NamesOther (handle.Nth n) handle.Null = ⊤
+NamesOther (handle.Nth n) (handle.Nth m) = n ≢ m
+
+abbrev pub NamesOpen : List Op → Op → Type 0
+NamesOpen earlier (op.Compute kind dst left right value step) = ⊤
+NamesOpen earlier (op.Post kind span whom selected comm status) = ⊤
+NamesOpen earlier (op.Await later handles status) = All (IsOpen earlier) handles.items × AllPairs NamesOther handles.items
+
+-- the operation may follow these of its body: its handles name open requests, each once, and it touches no cell in use
+pub record Follows (earlier : List Op) (operation : Op) : Type 0 where
+  pub handles : NamesOpen earlier operation
+  pub free : is_in_use earlier operation ≡ false
+
 -- a task: its rank exists, its regions lie in arrays and share no cell, and its operations may stand there
 pub record IsTask (program : Program) (task : TaskDef) : Type 0 where
   pub rank : task.rank < program.ranks
@@ -137,7 +160,23 @@ pub record IsTask (program : Program) (task : TaskDef) : Type 0 where
   pub apart : AllPairs (λ (one other : Access). ¬ Overlaps one.span other.span) task.accesses.items
   pub body : All (IsOperation program task) task.body.items
 
--- the cells of all regions of a task, and of all its sends
+-- the cells that an operation sends
+abbrev pub cells_sent : Op → ℕ
+cells_sent (op.Compute kind dst left right value step) = 0
+cells_sent (op.Post kind span whom selected comm status) = if is_receive kind then 0 else span_len span
+cells_sent (op.Await later handles status) = 0
+
+-- the handles that an operation names
+abbrev pub names_of : Op → ℕ
+names_of (op.Compute kind dst left right value step) = 0
+names_of (op.Post kind span whom selected comm status) = 0
+names_of (op.Await later handles status) = length handles.items
+
+-- the sum over all operations of all tasks
+abbrev pub over_operations : (Op → ℕ) → List TaskDef → ℕ
+over_operations count tasks = sum_by (λ (task : TaskDef). sum_by count task.body.items) tasks
+
+-- the cells of all regions of a task
 abbrev pub region_cells : TaskDef → ℕ
 region_cells task = sum_by (λ (access : Access). span_len access.span) task.accesses.items
 

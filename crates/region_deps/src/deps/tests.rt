@@ -1,15 +1,41 @@
-//! A small program, and which of its tasks may start when.
+//! Small programs, and which of their tasks may start when: a worked one, and random ones against the look at all tasks.
 
-ghost use Rattle.std.specs.Prelude.{◌≡◌, true, false, IsTrue, slice_get, Some};
+mod orderly;
+mod random;
 
+ghost use Rattle.std.specs.Prelude.{◌≡◌, ◌<◌, ℕ, true, false, IsTrue, IfSome, slice_get, Some, length};
+ghost use Rattle.region_deps.specs.Holding.{IsOrderly};
+
+use self::orderly::is_orderly;
+use self::random::Random;
 use super::Deps;
+use crate::scan;
 use rt_base::{
     Access, Accesses, Body, Lens, Mode, Names, Program, Shows, Span, TaskDef, TaskNo, Tasks,
 };
 use std::alloc::{AllocError, Global};
 use std::test::Fail;
 
-// A task with accesses to one array.
+impl Deps {
+    // Whether the task was handed out and is not released.
+    fn is_held(&self, task: usize) -> bool
+        ensures handed { IsTrue result → slice_get self.now.handed task ≡ Some true }
+        ensures held { IsTrue result → slice_get self.now.gone.released task ≡ Some false }
+        ensures numbered { IsTrue result → task < 4294967296 }
+    {
+        if task >= self.released.len() || task >= 4_294_967_296 {
+            return false;
+        }
+        self.graph.was_handed(task) && !self.released[task]
+    }
+
+    // Whether there is such a task and it may start.
+    fn starts(&self, task: usize) -> bool {
+        task < self.released.len() && task < 4_294_967_296 && self.may_start(TaskNo(task as u32))
+    }
+}
+
+// A task with accesses to array 0.
 fn task(
     alloc: Global,
     rank: u16,
@@ -35,9 +61,11 @@ fn task(
 }
 
 // The program of these tasks, of which only the order is looked at.
-fn program(alloc: Global, tasks: Vec<TaskDef>) -> Program {
+fn program(alloc: Global, tasks: Vec<TaskDef>) -> Program
+    ensures { result.tasks.items ≡ tasks.items }
+{
     Program {
-        ranks: 2,
+        ranks: 3,
         eager: 0,
         comms: 1,
         names: Names::empty(alloc),
@@ -47,11 +75,14 @@ fn program(alloc: Global, tasks: Vec<TaskDef>) -> Program {
     }
 }
 
-// Whether the task was handed out and is not released.
-fn is_held(handed: &[bool], released: &[bool], task: usize) -> bool
-    ensures { IsTrue result → (slice_get handed.now task ≡ Some true) × (slice_get released.now task ≡ Some false) }
+// The same where the tasks are in order and the accesses of each share no cell.
+fn orderly_program(alloc: Global, tasks: Vec<TaskDef>) -> Option<Program>
+    ensures { IfSome result (λ program. IsOrderly program.tasks.items) }
 {
-    task < handed.len() && task < released.len() && handed[task] && !released[task]
+    if !is_orderly(&tasks) {
+        return None;
+    }
+    Some(program(alloc, tasks))
 }
 
 #[test]
@@ -65,8 +96,10 @@ fn a_task_starts_once_all_that_precede_it_are_released(rt: HostRuntime) -> Resul
     tasks.push(task(alloc, 0, 0, &[(Mode::Out, 1, 1), (Mode::In, 4, 8)])?)?;
     tasks.push(task(alloc, 0, 2, &[])?)?;
     tasks.push(task(alloc, 1, 0, &[(Mode::Out, 0, 4)])?)?;
-    let program = program(alloc, tasks);
-    assert_eq!(rt; program.tasks.len(), 7);
+    let Some(program) = orderly_program(alloc, tasks) else {
+        assert!(rt; false, "in order");
+        return Ok(());
+    };
     let mut deps = Deps::of_tasks(alloc, &program)?;
 
     // What is released, and what may start then.
@@ -82,10 +115,7 @@ fn a_task_starts_once_all_that_precede_it_are_released(rt: HostRuntime) -> Resul
     ];
     for (gone, startable) in rows {
         if let Some(task) = gone {
-            assert!(rt;
-                is_held(&deps.handed, &deps.released, task as usize),
-                "held {task}"
-            );
+            assert!(rt; deps.is_held(task as usize), "held {task}");
             deps.release(TaskNo(task));
         }
         for _ in 0..startable.len() {
@@ -96,6 +126,107 @@ fn a_task_starts_once_all_that_precede_it_are_released(rt: HostRuntime) -> Resul
             );
         }
         assert!(rt; deps.next_startable().is_none(), "no more after {gone:?}");
+    }
+    Ok(())
+}
+
+// What was handed out and what is released, as the test saw it.
+#[derive(Drop)]
+struct Seen {
+    handed: Vec<bool>,
+    released: Vec<bool>,
+}
+
+impl Seen {
+    // Whether the task was handed out.
+    fn was_handed(&self, task: usize) -> bool {
+        task < self.handed.len() && self.handed[task]
+    }
+
+    // Whether the tasks that may start by the look at all tasks are those that may start by the counts.
+    fn agrees(&self, deps: &Deps, tasks: &[TaskDef]) -> bool {
+        for task in 0..tasks.len() {
+            if scan::may_start(tasks, &self.released, task) != deps.starts(task) {
+                return false;
+            }
+        }
+        true
+    }
+
+    // Hands out all tasks that may start. Whether each of them was one to hand out, and none was left.
+    fn hand_out(&mut self, deps: &mut Deps, tasks: &[TaskDef]) -> bool {
+        for _ in 0..tasks.len() {
+            let Some(next) = deps.next_startable() else {
+                break;
+            };
+            let task = next.0 as usize;
+            if self.was_handed(task) || !scan::may_start(tasks, &self.released, task) {
+                return false;
+            }
+            if task < self.handed.len() {
+                self.handed[task] = true;
+            }
+        }
+        deps.next_startable().is_none() && self.is_all_handed(tasks)
+    }
+
+    // Whether no task is left that may start.
+    fn is_all_handed(&self, tasks: &[TaskDef]) -> bool {
+        for task in 0..tasks.len() {
+            if !self.was_handed(task) && scan::may_start(tasks, &self.released, task) {
+                return false;
+            }
+        }
+        true
+    }
+
+    // Releases the first task that is held, from this one on. Whether there was one.
+    fn release(&mut self, deps: &mut Deps, from: usize) -> bool {
+        let many = self.released.len();
+        for step in 0..many {
+            let task = (from % many + step) % many;
+            if deps.is_held(task) {
+                deps.release(TaskNo(task as u32));
+                self.released[task] = true;
+                return true;
+            }
+        }
+        false
+    }
+}
+
+#[test]
+fn counts_and_the_look_at_all_tasks_offer_the_same(rt: HostRuntime) -> Result<(), Fail> {
+    let alloc = rt.alloc();
+    let mut random = Random::from_seed(20_260_101);
+    for round in 0..400u32 {
+        let tasks = random.tasks(alloc)?;
+        let Some(program) = orderly_program(alloc, tasks) else {
+            assert!(rt; false, "in order, round {round}");
+            return Ok(());
+        };
+        let mut deps = Deps::of_tasks(alloc, &program)?;
+        let tasks = program.tasks.as_slice();
+        let mut seen = Seen {
+            handed: vec![in alloc; false; tasks.len()]?,
+            released: vec![in alloc; false; tasks.len()]?,
+        };
+        for step in 0..tasks.len() {
+            assert!(rt; seen.agrees(&deps, tasks), "round {round}, step {step}");
+            assert!(rt;
+                seen.hand_out(&mut deps, tasks),
+                "handed out in round {round}, step {step}"
+            );
+            let from = random.below(16) as usize;
+            assert!(rt;
+                seen.release(&mut deps, from),
+                "released in round {round}, step {step}"
+            );
+        }
+        assert!(rt;
+            seen.released.iter().all(|gone| *gone),
+            "all released in round {round}"
+        );
     }
     Ok(())
 }

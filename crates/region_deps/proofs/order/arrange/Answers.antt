@@ -1,0 +1,7 @@
+-- a sort by the source leaves the sources rising
+use Rattle.std.proofs.Common.{rules}
+use Rattle.std.proofs.lemmas.List.Sorted.{IsNonDecreasingBy-from_sort_by_key}
+use Rattle.region_deps.proofs.order.arrange.Goals as goal
+
+pub returns-clause-sorted : goal.returns-clause-sorted
+returns-clause-sorted c = IsNonDecreasingBy-from_sort_by_key (λ l. l.source) _ c.sort_unstable_by_key.ensures.sorted (λ a r q k. search rules)
