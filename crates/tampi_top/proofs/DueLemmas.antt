@@ -1,5 +1,5 @@
 -- What a call owes, from what its text asks for.
-use Rattle.std.proofs.Common.{◌≡◌, ℕ, ◌≤◌, List, length, Some, inr}
+use Rattle.std.proofs.Common.{◌≡◌, ℕ, ◌≤◌, List, length, Some}
 use Rattle.tampi_top.specs.declared.words.Command.{Command}
 use Rattle.tampi_top.specs.declared.ending.Refusal.TheVariants as refusal
 use Rattle.tampi_top.specs.declared.decided.Due.{Due}
@@ -14,7 +14,11 @@ pub decided_by : (call : Call) (asked : Command) (text : List ℕ) (owed : Due) 
     → IsReadWhole call.given call.left text → length text ≤ 1048576 → IsOfText asked text owed → IsDecided call owed
 decided_by call asked text (due.Refused refusal.Words) is_asked whole short of_text = absurd of_text
 decided_by call asked text (due.Refused refusal.ReadFault) is_asked whole short of_text = absurd of_text
-decided_by call asked text (due.Refused refusal.NotBuilt) is_asked whole short of_text = (asked, is_asked, inr (text, whole, short, of_text))
+decided_by call asked text (due.Refused refusal.TooLong) is_asked whole short of_text = absurd of_text
+decided_by call asked text (due.Refused (refusal.Fault number kind)) is_asked whole short of_text =
+    record { asked = asked; is_asked = is_asked; input = text; whole = whole; short = short; holds = of_text }
+decided_by call asked text (due.Refused refusal.NotBuilt) is_asked whole short of_text =
+    record { asked = asked; is_asked = is_asked; input = text; whole = whole; short = short; holds = of_text }
 decided_by call asked text (due.Ran run) is_asked whole short of_text = record {
   asked = asked;
   is_asked = is_asked;

@@ -11,16 +11,16 @@ use Rattle.rt_base.specs.declared.data.Op.TheVariants as op
 use Rattle.rt_base.specs.declared.data.TaskDef.{TaskDef}
 use Rattle.rt_base.specs.declared.data.Program.{Program}
 use Rattle.rt_base.specs.Operations.{blocks}
-use Rattle.task_parse.specs.declared.form.Part.{Part}
-use Rattle.task_parse.specs.declared.form.Part.TheVariants as part
-use Rattle.task_parse.specs.declared.tree.What.{What}
-use Rattle.task_parse.specs.declared.tree.What.TheVariants as what
-use Rattle.task_parse.specs.declared.tree.PeerText.{PeerText}
-use Rattle.task_parse.specs.declared.tree.SpanText.{SpanText}
+use Rattle.task_expand.specs.declared.form.Part.{Part}
+use Rattle.task_expand.specs.declared.form.Part.TheVariants as part
+use Rattle.task_expand.specs.declared.simple.What.{What}
+use Rattle.task_expand.specs.declared.simple.What.TheVariants as what
+use Rattle.task_expand.specs.declared.simple.PeerText.{PeerText}
+use Rattle.task_expand.specs.declared.simple.SpanText.{SpanText}
 use Rattle.rt_base.specs.declared.data.Peer.TheVariants as peer
 use Rattle.rt_base.specs.declared.data.TagSel.TheVariants as tag
-use Rattle.task_parse.specs.declared.tree.Stmt.{Stmt}
-use Rattle.task_parse.specs.Forms.{is_built, is_in, behind, is_end, is_body, is_one_task, is_form_two}
+use Rattle.task_expand.specs.declared.simple.Stmt.{Stmt}
+use Rattle.task_expand.specs.Forms.{is_built, is_in, behind, is_end, is_body, is_one_task, is_run_form}
 use Rattle.task_expand.specs.declared.work.Work.{Work}
 use Rattle.task_expand.specs.declared.work.Work.TheVariants as work
 use Rattle.task_expand.specs.declared.said.Said.{Said}
@@ -94,8 +94,8 @@ task_built (stmt ∷ stmts) h =
     let both = and_parts _ _ h in
     (built_in part.Task stmt.what both.0, built_behind part.Access stmts (body_built (behind part.Access stmts) both.1))
 
-form_built : (stmts : List Stmt) → is_form_two stmts ≡ true → AllBuilt stmts
-unfolding is_form_two
+form_built : (stmts : List Stmt) → is_run_form stmts ≡ true → AllBuilt stmts
+unfolding is_run_form
 form_built stmts h = built_behind part.Array stmts (built_behind part.Show (behind part.Array stmts) (task_built (behind part.Show (behind part.Array stmts)) h))
 
 -- an operation that posts, posts a call of the form
@@ -212,6 +212,6 @@ tasks_plain stmts lens ranks None tasks built are t task here = absurd (cc (ap (
 tasks_plain stmts lens ranks (Some line) tasks built are t task here = task_plain stmts lens ranks line t task built (are.1 t task here)
 
 -- the program of a text of the form is one that the plain run takes
-pub is_plain : (stmts : List Stmt) (ranks eager : ℕ) (program : Program) → is_form_two stmts ≡ true → IsProgramOf stmts ranks eager program → IsPlain program
+pub is_plain : (stmts : List Stmt) (ranks eager : ℕ) (program : Program) → is_run_form stmts ≡ true → IsProgramOf stmts ranks eager program → IsPlain program
 is_plain stmts ranks eager program form is = λ t d within.
     tasks_plain stmts is.lens ranks (task_line stmts) program.tasks.items (form_built stmts form) is.tasks t (get_or program.tasks.items t d) (slice_get-get_or program.tasks.items t d within)

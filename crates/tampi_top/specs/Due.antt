@@ -15,9 +15,10 @@ use Rattle.tampi_top.specs.declared.ending.Verdict.TheVariants as verdict
 use Rattle.tampi_top.specs.declared.ending.Ending.{Ending}
 use Rattle.tampi_top.specs.declared.ending.Ending.TheVariants as ending
 use Rattle.tampi_top.specs.Words.{command}
-use Rattle.tampi_top.specs.Input.{IsReadWhole, IsTooLong}
+use Rattle.tampi_top.specs.Input.{IsReadWhole, IsTooLong, IsFrontTaken}
 use Rattle.tampi_top.specs.Report.{report}
 use Rattle.tampi_top.specs.Ending.{refusal_text}
+use Rattle.task_parse.specs.Trees.{IsFirstFault}
 use Rattle.tampi_top.specs.Accepted.{IsProgramText, HasNoProgram}
 
 -- what a call was given: its words, what its source tells of the bytes before and after the call, and the source's counts of faults
@@ -55,17 +56,25 @@ pub record IsRun (call : Call) (outcome : Verdict) (entries : List Entry) (statu
   pub accepted : IsProgramText asked input program
   pub run : IsRunOf program outcome entries statuses text
 
--- the input is longer than a text may be, or it was read to its end and says no program
-abbrev pub IsNotBuilt : Call → Command → Type 0
-IsNotBuilt call asked =
-    IsTooLong call.given call.left
-    ⊎ ((input : List ℕ) × IsReadWhole call.given call.left input × (length input ≤ 1048576) × HasNoProgram asked input)
+-- the words gave a command, the input was read to its end, and this holds of it
+pub record IsText (call : Call) (Holds : Command → List ℕ → Type 0) : Type 0 where
+  pub asked : Command
+  pub is_asked : command call.words ≡ Some asked
+  pub input : List ℕ
+  pub whole : IsReadWhole call.given call.left input
+  pub short : length input ≤ 1048576
+  pub holds : Holds asked input
 
--- the cause of a refusal: the words give no command, and nothing was read; the source's count of faults rose; there is no program
+-- the cause of a refusal: the words give no command, and nothing was read; the source's count of faults rose,
+-- and no more bytes were taken than a text may have; one byte more was taken;
+-- the text has this first fault; it has a tree that says no program
 abbrev pub HasCause : Call → Refusal → Type 0
 HasCause call refusal.Words = (command call.words ≡ None) × (call.left ≡ call.given) × (call.now ≡ call.before)
-HasCause call refusal.ReadFault = (asked : Command) × (command call.words ≡ Some asked) × Rose call.before call.now
-HasCause call refusal.NotBuilt = (asked : Command) × (command call.words ≡ Some asked) × IsNotBuilt call asked
+HasCause call refusal.ReadFault =
+    (asked : Command) × (command call.words ≡ Some asked) × Rose call.before call.now × IsFrontTaken call.given call.left
+HasCause call refusal.TooLong = (asked : Command) × (command call.words ≡ Some asked) × IsTooLong call.given call.left
+HasCause call (refusal.Fault number kind) = IsText call (λ asked input. IsFirstFault input number kind)
+HasCause call refusal.NotBuilt = IsText call HasNoProgram
 
 -- what a call owes that ends so: a run with its report, or one line and no history
 abbrev pub IsDue : Call → Ending → List Entry → List Status → List ℕ → Type 0

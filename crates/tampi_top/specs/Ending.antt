@@ -1,6 +1,9 @@
 -- How a call ends: its exit status and, where it runs nothing, its text (this project's).
-use Rattle.std.specs.Prelude.{ℕ, List, codes, if◌then◌else◌}
+use Rattle.std.specs.Prelude.{ℕ, List, ◌++◌, codes, if◌then◌else◌}
+use Rattle.std.specs.Fmt.{decimal}
 use Rattle.rt_base.specs.declared.data.Phase.{Phase}
+use Rattle.rt_base.specs.declared.data.FaultKind.{FaultKind}
+use Rattle.rt_base.specs.declared.data.FaultKind.TheVariants as fault
 use Rattle.tampi_top.specs.declared.ending.Refusal.{Refusal}
 use Rattle.tampi_top.specs.declared.ending.Refusal.TheVariants as refusal
 use Rattle.tampi_top.specs.declared.ending.Verdict.{Verdict}
@@ -16,6 +19,8 @@ verdict_status verdict.Stuck = 1
 abbrev pub refusal_status : Refusal → ℕ
 refusal_status refusal.Words = 2
 refusal_status refusal.ReadFault = 4
+refusal_status refusal.TooLong = 7
+refusal_status (refusal.Fault number kind) = 3
 refusal_status refusal.NotBuilt = 9
 
 -- the status of a call whose whole text was written
@@ -23,10 +28,47 @@ abbrev pub status_of : Ending → ℕ
 status_of (ending.Ran outcome) = verdict_status outcome
 status_of (ending.Refused why) = refusal_status why
 
+-- the name of a kind of fault
+abbrev pub kind_text : FaultKind → List ℕ
+kind_text fault.Byte = codes "Byte"
+kind_text fault.Number = codes "Number"
+kind_text fault.Name = codes "Name"
+kind_text fault.Shape = codes "Shape"
+kind_text fault.Depth = codes "Depth"
+kind_text fault.Place = codes "Place"
+kind_text fault.Open = codes "Open"
+kind_text fault.UnknownName = codes "UnknownName"
+kind_text fault.NameTaken = codes "NameTaken"
+kind_text fault.Overflow = codes "Overflow"
+kind_text fault.DivisionByZero = codes "DivisionByZero"
+kind_text fault.BadSize = codes "BadSize"
+kind_text fault.BadSpan = codes "BadSpan"
+kind_text fault.BadRank = codes "BadRank"
+kind_text fault.BadTag = codes "BadTag"
+kind_text fault.AccessOverlap = codes "AccessOverlap"
+kind_text fault.NotDeclared = codes "NotDeclared"
+kind_text fault.NotWritable = codes "NotWritable"
+kind_text fault.LengthMismatch = codes "LengthMismatch"
+kind_text fault.BadShift = codes "BadShift"
+kind_text fault.EmptySource = codes "EmptySource"
+kind_text fault.StatusLength = codes "StatusLength"
+kind_text fault.RequestTwice = codes "RequestTwice"
+kind_text fault.RequestBusy = codes "RequestBusy"
+kind_text fault.InUse = codes "InUse"
+kind_text fault.RequestLeft = codes "RequestLeft"
+kind_text fault.NoTrace = codes "NoTrace"
+kind_text fault.TraceHeader = codes "TraceHeader"
+
+-- `refused LINE KIND`
+abbrev pub fault_text : ℕ → FaultKind → List ℕ
+fault_text number kind = codes "refused " ++ (decimal number ++ (codes " " ++ (kind_text kind ++ codes "\n")))
+
 -- the one line of a call that runs nothing
 abbrev pub refusal_text : Refusal → List ℕ
 refusal_text refusal.Words = codes "words refused\n"
 refusal_text refusal.ReadFault = codes "read fault\n"
+refusal_text refusal.TooLong = codes "too long\n"
+refusal_text (refusal.Fault number kind) = fault_text number kind
 refusal_text refusal.NotBuilt = codes "not built\n"
 
 -- how a run ended whose tasks stand there

@@ -14,9 +14,13 @@ IsReadWhole (Some bytes) new text = (bytes ≡ text) × (new ≡ Some [])
 abbrev pub IsTooLong : Option (List ℕ) → Option (List ℕ) → Type 0
 IsTooLong old new = (front : List ℕ) × (length front ≡ 1048577) × Consumes old new front
 
+-- no more bytes were taken than a text may have (this project's)
+abbrev pub IsFrontTaken : Option (List ℕ) → Option (List ℕ) → Type 0
+IsFrontTaken old new = (front : List ℕ) × (length front ≤ 1048576) × Consumes old new front
+
 -- what reading came to: the whole text, one byte too many, or a fault that the count shows; want of memory is free (this project's)
 abbrev pub IsTaken : Option (List ℕ) → Option (List ℕ) → ℕ → ℕ → Taken → Type 0
 IsTaken old new before now (taken.Whole text) = IsReadWhole old new text.items × (length text.items ≤ 1048576)
 IsTaken old new before now taken.TooLong = IsTooLong old new
-IsTaken old new before now taken.Fault = Rose before now
+IsTaken old new before now taken.Fault = Rose before now × IsFrontTaken old new
 IsTaken old new before now taken.Memory = ⊤

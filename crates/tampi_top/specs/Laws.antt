@@ -3,19 +3,41 @@ use Rattle.std.specs.Prelude.{◌≡◌, ℕ, ◌≤◌, List, [], length, Some}
 use Rattle.rt_base.specs.declared.data.Status.{Status}
 use Rattle.rt_base.specs.declared.data.Entry.{Entry}
 use Rattle.rt_base.specs.declared.data.Program.{Program}
+use Rattle.rt_base.specs.declared.data.FaultKind.{FaultKind}
 use Rattle.rt_base.specs.Outside.{Rose}
 use Rattle.tampi_top.specs.declared.words.Command.{Command}
 use Rattle.tampi_top.specs.declared.ending.Verdict.{Verdict}
 use Rattle.tampi_top.specs.declared.ending.Ending.{Ending}
 use Rattle.tampi_top.specs.declared.ending.Ending.TheVariants as ending
+use Rattle.tampi_top.specs.declared.ending.Refusal.TheVariants as refusal
+use Rattle.task_parse.specs.Trees.{IsFirstFault}
 use Rattle.tampi_top.specs.Words.{command}
-use Rattle.tampi_top.specs.Accepted.{IsProgramText}
+use Rattle.tampi_top.specs.Accepted.{IsProgramText, HasNoProgram}
 use Rattle.tampi_top.specs.Due.{Call, IsDue}
 
--- a told text of a command that says a program is run, where no read failed, and was read to its end
+-- the words of a call give this command, and its source tells this text of at most 1,048,576 bytes, at which no read failed
+pub record IsGiven (call : Call) (asked : Command) (text : List ℕ) : Type 0 where
+  pub is_asked : command call.words ≡ Some asked
+  pub told : call.given ≡ Some text
+  pub short : length text ≤ 1048576
+  pub no_fault : ¬ Rose call.before call.now
+
+-- a told text of a command that says a program is run, and was read to its end
 abbrev pub ProgramsAreRun : Type 0
 ProgramsAreRun =
     (call : Call) (ends : Ending) (entries : List Entry) (statuses : List Status) (written : List ℕ) → IsDue call ends entries statuses written
-    → (asked : Command) (text : List ℕ) (program : Program) → command call.words ≡ Some asked → call.given ≡ Some text → length text ≤ 1048576
-    → IsProgramText asked text program → ¬ Rose call.before call.now
+    → (asked : Command) (text : List ℕ) (program : Program) → IsGiven call asked text → IsProgramText asked text program
     → (outcome : Verdict) × (ends ≡ ending.Ran outcome) × (call.left ≡ Some [])
+
+-- a told text with a fault is refused with its first fault
+abbrev pub FaultsAreRefused : Type 0
+FaultsAreRefused =
+    (call : Call) (ends : Ending) (entries : List Entry) (statuses : List Status) (written : List ℕ) → IsDue call ends entries statuses written
+    → (asked : Command) (text : List ℕ) (number : ℕ) (kind : FaultKind) → IsGiven call asked text → IsFirstFault text number kind
+    → ends ≡ ending.Refused (refusal.Fault number kind)
+
+-- a told text that has a tree, of which there is no program that is run, is not built
+abbrev pub OthersAreNotBuilt : Type 0
+OthersAreNotBuilt =
+    (call : Call) (ends : Ending) (entries : List Entry) (statuses : List Status) (written : List ℕ) → IsDue call ends entries statuses written
+    → (asked : Command) (text : List ℕ) → IsGiven call asked text → HasNoProgram asked text → ends ≡ ending.Refused refusal.NotBuilt

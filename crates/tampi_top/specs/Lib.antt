@@ -7,3 +7,4 @@ pub mod Accepted
 pub mod Due
 pub mod Decided
 pub mod Laws
+pub mod Whys

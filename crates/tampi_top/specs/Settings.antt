@@ -1,4 +1,4 @@
--- The values that the options have while the words are read.
+-- The values that the options have while the words are read. No public clause cites this module.
 use Rattle.std.specs.Prelude.{◌≤◌, IfSome, ℕ, List, [], ◌∷◌, Option, Some, None, if◌then◌else◌}
 use Rattle.std.specs.List.{list_all}
 use denote.Ref.{Bor}

@@ -30,6 +30,7 @@ fn due_of_text(alloc: Global, text: &[u8], asked: Command) -> Due
             Ok(run) => Due::Ran(run),
             Err(_) => Due::Memory,
         },
+        Err(Unaccepted::Fault { line, kind }) => Due::Refused(Refusal::Fault { line, kind }),
         Err(Unaccepted::NotBuilt) => Due::Refused(Refusal::NotBuilt),
         Err(Unaccepted::Memory) => Due::Memory,
     }
@@ -49,7 +50,7 @@ pub fn due_of<S: ByteSource>(alloc: Global, words: &[String], input: &mut S) -> 
         None => Due::Refused(Refusal::Words),
         Some(asked) => match read_text(alloc, input) {
             Taken::Whole(text) => due_of_text(alloc, text.as_slice(), asked),
-            Taken::TooLong => Due::Refused(Refusal::NotBuilt),
+            Taken::TooLong => Due::Refused(Refusal::TooLong),
             Taken::Fault => Due::Refused(Refusal::ReadFault),
             Taken::Memory => Due::Memory,
         },

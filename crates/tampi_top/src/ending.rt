@@ -1,6 +1,8 @@
 //! How a call ends.
 ghost use Rattle.std.specs.Prelude.{◌≡◌};
-ghost use Rattle.tampi_top.specs.Ending.{verdict_status, refusal_status, refusal_text};
+ghost use Rattle.tampi_top.specs.Ending.{verdict_status, refusal_status};
+
+use rt_base::FaultKind;
 
 /// Why a call runs nothing.
 #[derive(Clone, Copy, Debug, PartialEq, Eq)]
@@ -9,7 +11,11 @@ pub enum Refusal {
     Words,
     /// A read failed.
     ReadFault,
-    /// There is no program of the form that is built.
+    /// The input is longer than a text may be.
+    TooLong,
+    /// The text has this first fault, at this line, counted from 1.
+    Fault { line: u32, kind: FaultKind },
+    /// The text says no program that is built yet.
     NotBuilt,
 }
 
@@ -46,17 +52,8 @@ pub fn refusal_status(refusal: Refusal) -> u8
     match refusal {
         Refusal::Words => 2,
         Refusal::ReadFault => 4,
+        Refusal::TooLong => 7,
+        Refusal::Fault { .. } => 3,
         Refusal::NotBuilt => 9,
-    }
-}
-
-/// The one line of a refusal.
-pub fn refusal_text(refusal: Refusal) -> &'static str
-    ensures { result.now ≡ refusal_text refusal }
-{
-    match refusal {
-        Refusal::Words => "words refused\n",
-        Refusal::ReadFault => "read fault\n",
-        Refusal::NotBuilt => "not built\n",
     }
 }

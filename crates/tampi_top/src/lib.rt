@@ -6,6 +6,7 @@ mod decided;
 mod ending;
 pub mod laws;
 mod reading;
+mod refusing;
 mod report;
 mod run;
 mod top;

@@ -11,14 +11,14 @@ use rt_base::{Phase, Program, TaskDef};
 use std::alloc::{AllocError, Global};
 
 // Puts the words behind the text.
-fn put(text: &mut Vec<u8>, words: &str) -> Result<(), AllocError>
+pub fn put(text: &mut Vec<u8>, words: &str) -> Result<(), AllocError>
     ensures { OnOk result (text.new.items ≡ text.old.items ++ words.now) }
 {
     text.extend_from_slice(words.as_bytes())
 }
 
 // Puts the number behind the text.
-fn put_number(alloc: Global, text: &mut Vec<u8>, number: u32) -> Result<(), AllocError>
+pub fn put_number(alloc: Global, text: &mut Vec<u8>, number: u32) -> Result<(), AllocError>
     ensures { OnOk result (text.new.items ≡ text.old.items ++ decimal number) }
 {
     put(text, number.to_string(alloc)?.as_str())

@@ -116,12 +116,12 @@ fn words_that_give_no_command_read_nothing(rt: HostRuntime) -> Result<(), Fail> 
 }
 
 #[test]
-fn a_text_of_one_byte_too_many_is_not_built(rt: HostRuntime) -> Result<(), Fail> {
+fn a_text_of_one_byte_too_many_is_too_long(rt: HostRuntime) -> Result<(), Fail> {
     let alloc = rt.alloc();
     let rows: [(usize, u8, &[u8], usize); 3] = [
         (1_048_576, 0, b"finished\n", 0),
-        (1_048_577, 9, b"not built\n", 0),
-        (1_048_600, 9, b"not built\n", 23),
+        (1_048_577, 7, b"too long\n", 0),
+        (1_048_600, 7, b"too long\n", 23),
     ];
     for (len, status, told, left) in rows {
         let mut input = MemSource::new(vec![in alloc; b' '; len]?);
@@ -131,6 +131,131 @@ fn a_text_of_one_byte_too_many_is_not_built(rt: HostRuntime) -> Result<(), Fail>
         assert_eq!(rt; out.bytes(), told);
         assert_eq!(rt; input.rest().len(), left);
     }
+    Ok(())
+}
+
+// What a text comes to, read to its end: its status, and what was written.
+fn is_told<R: Threads + Wait + Sync>(
+    rt: &R,
+    alloc: Global,
+    text: &[u8],
+    status: u8,
+    told: &[u8],
+) -> Result<bool, AllocError> {
+    let mut input = MemSource::new(text.to_vec(alloc)?);
+    let mut out = MemSink::new(alloc, 100)?;
+    let outcome = outcome_of(rt, alloc, "run", &mut input, &mut out)?;
+    let whole = input.rest().is_empty() && outcome.history.entries.is_empty();
+    Ok(whole && outcome.status == status && out.bytes() == told)
+}
+
+#[test]
+fn a_text_with_a_fault_is_refused_at_its_first(rt: HostRuntime) -> Result<(), Fail> {
+    let alloc = rt.alloc();
+    let rows: [(&[u8], &[u8]); 9] = [
+        (b"show $\nshow 1.\n", b"refused 1 Byte\n"),
+        (b"\n# $\nshow !\n", b"refused 3 Byte\n"),
+        (b"array u, 9223372036854775808\n", b"refused 1 Number\n"),
+        (
+            b"show a23456789012345678901234567890123\n",
+            b"refused 1 Name\n",
+        ),
+        (b"show rank\n", b"refused 1 Shape\n"),
+        (b"release u[0..1]\n", b"refused 1 Shape\n"),
+        (b"end\nend\n", b"refused 1 Place\n"),
+        (b"if 1\nelse\nelse\nend\n", b"refused 3 Place\n"),
+        (b"task\ndo", b"refused 3 Open\n"),
+    ];
+    for (text, told) in rows {
+        assert!(rt; is_told(&rt, alloc, text, 3, told)?, "{told:?}");
+    }
+    Ok(())
+}
+
+#[test]
+fn a_text_of_another_form_is_not_built(rt: HostRuntime) -> Result<(), Fail> {
+    let alloc = rt.alloc();
+    let rows: [&[u8]; 8] = [
+        b"let x = 1\n",
+        b"comm c\n",
+        b"taskwait\n",
+        b"array u, 1 + 1\n",
+        b"task\ndo\nend\ntask\ndo\nend\n",
+        b"array u, 1\ntask\nout u[0..1]\ndo\nfill u[0..1], -7\nend\n",
+        b"array u, 1\ntask\nout u[0..1]\ndo\nrecv u[0..1], any, 0\nend\n",
+        b"array u, 1\ntask\nin u[0..1]\ndo\nisend q, u[0..1], 0, 0\nwait q\nend\n",
+    ];
+    for text in rows {
+        assert!(rt; is_told(&rt, alloc, text, 9, b"not built\n")?, "{text:?}");
+    }
+    Ok(())
+}
+
+// A comment and brackets play no part in the form.
+#[test]
+fn blanks_and_brackets_do_not_count(rt: HostRuntime) -> Result<(), Fail> {
+    let alloc = rt.alloc();
+    let text = b"# two cells\narray u, (2)\n\ntask # one\nout u[0..(2)]\ndo\nend\n";
+    let mut input = MemSource::new(text.to_vec(alloc)?);
+    let mut out = MemSink::new(alloc, 100)?;
+    let outcome = outcome_of(&rt, alloc, "run", &mut input, &mut out)?;
+    assert_eq!(rt; outcome.status, 0);
+    assert_eq!(rt; out.bytes(), b"finished\n".as_slice());
+    Ok(())
+}
+
+// `let x = `, a part so many times, a last part so many times, and the end of the line.
+fn long_line(
+    alloc: Global,
+    part: &[u8],
+    times: usize,
+    middle: &[u8],
+    last: &[u8],
+    closed: usize,
+) -> Result<Vec<u8>, AllocError> {
+    let mut text = b"let x = ".to_vec(alloc)?;
+    for _ in 0..times {
+        text.extend_from_slice(part)?;
+    }
+    text.extend_from_slice(middle)?;
+    for _ in 0..closed {
+        text.extend_from_slice(last)?;
+    }
+    text.extend_from_slice(b"\n")?;
+    Ok(text)
+}
+
+// No line runs out of stack, however deep its tree would be.
+#[test]
+fn long_lines_come_to_an_end(rt: HostRuntime) -> Result<(), Fail> {
+    let alloc = rt.alloc();
+    let sum = long_line(alloc, b"1+", 500_000, b"1", b"", 0)?;
+    assert!(rt; is_told(&rt, alloc, &sum, 9, b"not built\n")?, "a sum");
+    let product = long_line(alloc, b"1*", 500_000, b"1", b"", 0)?;
+    assert!(rt;
+        is_told(&rt, alloc, &product, 9, b"not built\n")?,
+        "a product"
+    );
+    let half = long_line(alloc, b"1+", 500_000, b"", b"", 0)?;
+    assert!(rt;
+        is_told(&rt, alloc, &half, 3, b"refused 1 Shape\n")?,
+        "a sum without its end"
+    );
+    let open = long_line(alloc, b"(", 1_000_000, b"", b"", 0)?;
+    assert!(rt;
+        is_told(&rt, alloc, &open, 3, b"refused 1 Shape\n")?,
+        "brackets"
+    );
+    let minus = long_line(alloc, b"-", 1_000_000, b"1", b"", 0)?;
+    assert!(rt;
+        is_told(&rt, alloc, &minus, 3, b"refused 1 Depth\n")?,
+        "minus signs"
+    );
+    let right = long_line(alloc, b"(1+", 250_000, b"1", b")", 250_000)?;
+    assert!(rt;
+        is_told(&rt, alloc, &right, 3, b"refused 1 Depth\n")?,
+        "brackets to the right"
+    );
     Ok(())
 }
 

@@ -9,7 +9,8 @@ ghost use Rattle.tampi_top.specs.Ending.{status_of, verdict_status, refusal_stat
 ghost use Rattle.tampi_top.specs.Due.{Call, IsDue};
 
 use crate::decided::{Due, due_of};
-use crate::ending::{Refusal, refusal_status, refusal_text, verdict_status};
+use crate::ending::{Refusal, refusal_status, verdict_status};
+use crate::refusing::line_of;
 use crate::run::Run;
 use crate::writing::write_text;
 use rt_base::{ByteSink, ByteSource, Entries, Gate, History, Put, Statuses};
@@ -77,8 +78,9 @@ fn told<K: ByteSink>(out: &mut K, run: Run) -> Outcome
     }
 }
 
-// Writes the line of a refusal.
-fn refused<K: ByteSink>(alloc: Global, out: &mut K, refusal: Refusal) -> Outcome
+// Writes the line of a refusal, which was made before.
+fn refused<K: ByteSink>(alloc: Global, out: &mut K, refusal: Refusal, text: &[u8]) -> Outcome
+    requires text { text.now ≡ refusal_text refusal }
     ensures memory { result.status ≢ 6 }
     ensures entries { result.history.entries.items ≡ [] }
     ensures statuses { result.history.statuses.items ≡ [] }
@@ -87,12 +89,24 @@ fn refused<K: ByteSink>(alloc: Global, out: &mut K, refusal: Refusal) -> Outcome
     ensures broken { result.status ≡ 5
         → Rose (K.faults out.old) (K.faults out.new) × AppendsFront (K.written out.old) (K.written out.new) (refusal_text refusal) }
 {
-    let status = say(
-        out,
-        refusal_text(refusal).as_bytes(),
-        refusal_status(refusal),
-    );
+    let status = say(out, text, refusal_status(refusal));
     ended(alloc, status)
+}
+
+// Makes the line of a refusal and writes it, or wants memory and writes nothing.
+fn refuse<K: ByteSink>(alloc: Global, out: &mut K, refusal: Refusal) -> Outcome
+    ensures entries { result.history.entries.items ≡ [] }
+    ensures statuses { result.history.statuses.items ≡ [] }
+    ensures written { result.status ≢ 5 → result.status ≢ 6
+        → (result.status ≡ refusal_status refusal) × Appends (K.written out.old) (K.written out.new) (refusal_text refusal) }
+    ensures broken { result.status ≡ 5
+        → Rose (K.faults out.old) (K.faults out.new) × AppendsFront (K.written out.old) (K.written out.new) (refusal_text refusal) }
+    ensures unchanged { result.status ≡ 6 → out.new ≡ out.old }
+{
+    match line_of(alloc, refusal) {
+        Ok(text) => refused(alloc, out, refusal, text.as_slice()),
+        Err(_) => ended(alloc, NO_MEMORY),
+    }
 }
 
 /// Does what the words ask for with the bytes of the input: runs the text that they are, and writes its report.
@@ -138,7 +152,7 @@ pub fn tampi<R: Threads + Wait + Sync, S: ByteSource, K: ByteSink, G: Gate>(
     let _ = gate;
     match due_of(alloc, words, input) {
         Due::Ran(ran) => told(out, ran),
-        Due::Refused(refusal) => refused(alloc, out, refusal),
+        Due::Refused(refusal) => refuse(alloc, out, refusal),
         Due::Memory => ended(alloc, NO_MEMORY),
     }
 }

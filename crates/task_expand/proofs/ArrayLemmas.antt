@@ -5,9 +5,9 @@ use Rattle.std.specs.List.{All, AllPairs, filter_map, cons_option}
 use Rattle.std.proofs.lemmas.Bool.{leb-true}
 use Rattle.std.proofs.lemmas.List.{length-append}
 use Rattle.std.proofs.lemmas.List.Elements.{All-nil, All-cons}
-use Rattle.task_parse.specs.declared.tree.What.{What}
-use Rattle.task_parse.specs.declared.tree.What.TheVariants as what
-use Rattle.task_parse.specs.declared.tree.Stmt.{Stmt}
+use Rattle.task_expand.specs.declared.simple.What.{What}
+use Rattle.task_expand.specs.declared.simple.What.TheVariants as what
+use Rattle.task_expand.specs.declared.simple.Stmt.{Stmt}
 use Rattle.task_expand.specs.declared.said.Said.{Said}
 use Rattle.task_expand.specs.declared.said.Said.TheVariants as said
 use Rattle.task_expand.specs.Said.{and_more, all_said}

@@ -9,3 +9,5 @@ pub mod SpanLemmas
 pub mod BodyLemmas
 pub mod OpLemmas
 pub mod ProgramLemmas
+pub mod FormLemmas
+pub mod SimpleLemmas

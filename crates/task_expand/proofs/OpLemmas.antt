@@ -22,7 +22,7 @@ use Rattle.rt_base.specs.Spans.{span_len}
 use Rattle.rt_base.specs.Layout.{array_count}
 use Rattle.rt_base.specs.Operations.{is_receive, is_posting}
 use Rattle.rt_base.specs.WellFormed.{IsSpan, IsDeclared, IsWritable, MayRead, MayWrite, IsPostingOf, IsOperation}
-use Rattle.task_parse.specs.declared.tree.PeerText.{PeerText}
+use Rattle.task_expand.specs.declared.simple.PeerText.{PeerText}
 use Rattle.task_expand.specs.declared.work.Work.{Work}
 use Rattle.task_expand.specs.declared.work.Work.TheVariants as work
 use Rattle.task_expand.specs.Lines.{op_of, peer_of, repeated}

@@ -13,7 +13,7 @@ use Rattle.rt_base.specs.Spans.{span_len, Overlaps}
 use Rattle.rt_base.specs.Layout.{array_count, memory_len}
 use Rattle.rt_base.specs.Operations.{is_posting, postings}
 use Rattle.rt_base.specs.WellFormed.{IsOperation, IsTask, region_cells, InOrder, WellFormed}
-use Rattle.task_parse.specs.declared.tree.Stmt.{Stmt}
+use Rattle.task_expand.specs.declared.simple.Stmt.{Stmt}
 use Rattle.task_expand.specs.declared.work.Work.{Work}
 use Rattle.task_expand.specs.Arrays.{names_of, lens_of}
 use Rattle.task_expand.specs.Lines.{shows_of, accesses_of, works_of, op_of, body_of, task_line, IsTaskOf, AreTasksOf, repeated, IsProgramOf}

@@ -9,12 +9,12 @@ use Rattle.rt_base.specs.declared.data.Span.{Span}
 use Rattle.rt_base.specs.declared.data.Access.{Access}
 use Rattle.rt_base.specs.declared.data.Mode.{Mode}
 use Rattle.rt_base.specs.declared.data.How.{How}
-use Rattle.task_parse.specs.declared.tree.SpanText.{SpanText}
-use Rattle.task_parse.specs.declared.tree.PeerText.{PeerText}
-use Rattle.task_parse.specs.declared.tree.PeerText.TheVariants as text
-use Rattle.task_parse.specs.declared.tree.What.{What}
-use Rattle.task_parse.specs.declared.tree.What.TheVariants as what
-use Rattle.task_parse.specs.declared.tree.Stmt.{Stmt}
+use Rattle.task_expand.specs.declared.simple.SpanText.{SpanText}
+use Rattle.task_expand.specs.declared.simple.PeerText.{PeerText}
+use Rattle.task_expand.specs.declared.simple.PeerText.TheVariants as text
+use Rattle.task_expand.specs.declared.simple.What.{What}
+use Rattle.task_expand.specs.declared.simple.What.TheVariants as what
+use Rattle.task_expand.specs.declared.simple.Stmt.{Stmt}
 use Rattle.task_expand.specs.declared.said.Said.{Said}
 use Rattle.task_expand.specs.declared.said.Said.TheVariants as said
 use Rattle.task_expand.specs.declared.work.Work.{Work}

@@ -3,10 +3,10 @@ use Rattle.std.specs.Prelude.{ℕ, ◌&&◌, nat_le, List, length, ℤ, pos, neg
 use Rattle.std.specs.List.{filter_map}
 use Rattle.std.specs.Str.{bytes_eq}
 use Rattle.rt_base.specs.declared.data.Span.{Span}
-use Rattle.task_parse.specs.declared.tree.SpanText.{SpanText}
-use Rattle.task_parse.specs.declared.tree.What.{What}
-use Rattle.task_parse.specs.declared.tree.What.TheVariants as what
-use Rattle.task_parse.specs.declared.tree.Stmt.{Stmt}
+use Rattle.task_expand.specs.declared.simple.SpanText.{SpanText}
+use Rattle.task_expand.specs.declared.simple.What.{What}
+use Rattle.task_expand.specs.declared.simple.What.TheVariants as what
+use Rattle.task_expand.specs.declared.simple.Stmt.{Stmt}
 use Rattle.task_expand.specs.declared.said.Said.{Said}
 use Rattle.task_expand.specs.declared.said.Said.TheVariants as said
 use Rattle.task_expand.specs.Said.{all_said}

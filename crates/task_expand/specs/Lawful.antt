@@ -7,9 +7,9 @@ use Rattle.rt_base.specs.declared.data.Program.{Program}
 use Rattle.rt_base.specs.Spans.{span_len}
 use Rattle.rt_base.specs.Operations.{is_receive}
 use Rattle.rt_base.specs.WellFormed.{WellFormed}
-use Rattle.task_parse.specs.declared.tree.What.{What}
-use Rattle.task_parse.specs.declared.tree.What.TheVariants as what
-use Rattle.task_parse.specs.declared.tree.Stmt.{Stmt}
+use Rattle.task_expand.specs.declared.simple.What.{What}
+use Rattle.task_expand.specs.declared.simple.What.TheVariants as what
+use Rattle.task_expand.specs.declared.simple.Stmt.{Stmt}
 use Rattle.task_expand.specs.Arrays.{names_of}
 
 -- the cells that an operation sends

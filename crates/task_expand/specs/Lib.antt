@@ -5,3 +5,5 @@ pub mod Lawful
 pub mod Cells
 pub mod Plans
 pub mod Ranks
+pub mod Forms
+pub mod Simple

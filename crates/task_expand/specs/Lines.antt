@@ -11,12 +11,12 @@ use Rattle.rt_base.specs.declared.data.Op.{Op}
 use Rattle.rt_base.specs.declared.data.Op.TheVariants as op
 use Rattle.rt_base.specs.declared.data.TaskDef.{TaskDef}
 use Rattle.rt_base.specs.declared.data.Program.{Program}
-use Rattle.task_parse.specs.declared.tree.SpanText.{SpanText}
-use Rattle.task_parse.specs.declared.tree.PeerText.{PeerText}
-use Rattle.task_parse.specs.declared.tree.PeerText.TheVariants as text
-use Rattle.task_parse.specs.declared.tree.What.{What}
-use Rattle.task_parse.specs.declared.tree.What.TheVariants as what
-use Rattle.task_parse.specs.declared.tree.Stmt.{Stmt}
+use Rattle.task_expand.specs.declared.simple.SpanText.{SpanText}
+use Rattle.task_expand.specs.declared.simple.PeerText.{PeerText}
+use Rattle.task_expand.specs.declared.simple.PeerText.TheVariants as text
+use Rattle.task_expand.specs.declared.simple.What.{What}
+use Rattle.task_expand.specs.declared.simple.What.TheVariants as what
+use Rattle.task_expand.specs.declared.simple.Stmt.{Stmt}
 use Rattle.task_expand.specs.declared.said.Said.{Said}
 use Rattle.task_expand.specs.declared.said.Said.TheVariants as said
 use Rattle.task_expand.specs.declared.work.Work.{Work}

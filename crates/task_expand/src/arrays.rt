@@ -10,9 +10,9 @@ use crate::limits::keeps;
 use crate::lines::{MOST_CELLS, len_of, named_by};
 use crate::refusal::ExpandRefusal;
 use crate::said::Said;
+use crate::simple::{SpanText, Stmt};
 use rt_base::{Lens, Name, Names, Span};
 use std::alloc::Global;
-use task_parse::{SpanText, Stmt};
 
 // The most arrays of one rank.
 const MOST_ARRAYS: usize = 1_024;

@@ -9,16 +9,20 @@ ghost use Rattle.task_expand.specs.Arrays.{names_of};
 ghost use Rattle.task_expand.specs.Lines.{task_line, AreTasksOf, IsProgramOf};
 ghost use Rattle.task_expand.specs.Ranks.{FitText, IsFitText};
 ghost use Rattle.task_expand.specs.Lawful.{IsLawful};
+ghost use Rattle.task_expand.specs.Simple.{IsProgramOfTree};
 
 use crate::arrays::{Arrays, arrays_of};
+use crate::form::is_run_form;
 use crate::limits::keeps;
 use crate::lines::{steps_of, task_line};
 use crate::plan::{plan_of, shows_of};
 use crate::ranks::{repeated, tasks_of};
 use crate::refusal::ExpandRefusal;
+use crate::simple::Stmt;
+use crate::simplify::simple_lines;
 use rt_base::{Program, Shows, Tasks};
 use std::alloc::Global;
-use task_parse::{Stmt, Tree};
+use task_tree::Tree;
 
 const MOST_STEPS: u32 = 16_777_216;
 
@@ -87,19 +91,40 @@ fn program_of(
     })
 }
 
-/// The program of a text of the second form, for so many ranks and this eager limit in cells: every rank runs the same text.
+// The program that the statements say, in whatever order they stand.
+pub fn expand_lines(
+    alloc: Global,
+    stmts: &[Stmt],
+    ranks: u16,
+    eager: u32,
+) -> Result<Program, ExpandRefusal>
+    requires some_rank { 1 ≤ ranks }
+    requires ranks { ranks ≤ 64 }
+    requires eager { eager ≤ 16777216 }
+    ensures program { IfOk result (λ program. IsProgramOf stmts.now ranks eager program) }
+    ensures lawful { IfOk result (λ program. IsLawful stmts.now ranks program) }
+    ensures well_formed { IfOk result (λ program. WellFormed program) }
+    ensures refused { IfErr result (λ e. e ≡ refusal.Refused → (program : Program) → IsProgramOf stmts.now ranks eager program → IsLawful stmts.now ranks program → ⊥) }
+{
+    program_of(alloc, stmts, ranks, eager)
+}
+
+/// The program of a text, for so many ranks and this eager limit in cells: every rank runs the same text.
 ///
-/// Nothing is asked of the form: in another tree each line is read for what it is, wherever it stands.
+/// The text is of the form that is run: `array` lines, `show` lines, and at most one task of `fill`, `copy`, `send` and `recv`, with numbers for expressions.
 pub fn expand(alloc: Global, tree: &Tree, ranks: u16, eager: u32) -> Result<Program, ExpandRefusal>
     requires some_rank { 1 ≤ ranks }
     requires ranks { ranks ≤ 64 }
     requires eager { eager ≤ 16777216 }
-    ensures program { IfOk result (λ program. IsProgramOf tree.now.items ranks eager program) }
-    ensures lawful { IfOk result (λ program. IsLawful tree.now.items ranks program) }
+    ensures program { IfOk result (λ program. IsProgramOfTree tree.now.items ranks eager program) }
     ensures well_formed { IfOk result (λ program. WellFormed program) }
 
-    // Refused exactly where the text says no lawful program.
-    ensures refused { IfErr result (λ e. e ≡ refusal.Refused → (program : Program) → IsProgramOf tree.now.items ranks eager program → IsLawful tree.now.items ranks program → ⊥) }
+    // Refused exactly where the text is of another form, or meets a fault or a limit.
+    ensures refused { IfErr result (λ e. e ≡ refusal.Refused → (program : Program) → IsProgramOfTree tree.now.items ranks eager program → ⊥) }
 {
-    program_of(alloc, tree.as_slice(), ranks, eager)
+    let stmts = simple_lines(alloc, tree.as_slice())?;
+    if !is_run_form(stmts.as_slice()) {
+        return Err(ExpandRefusal::Refused);
+    }
+    expand_lines(alloc, stmts.as_slice(), ranks, eager)
 }

@@ -4,6 +4,7 @@
 mod arrays;
 mod cells;
 mod expansion;
+mod form;
 mod limits;
 mod lines;
 mod plan;
@@ -11,6 +12,8 @@ mod ranks;
 mod refusal;
 mod regions;
 mod said;
+mod simple;
+mod simplify;
 mod work;
 
 pub use expansion::expand;

@@ -6,8 +6,8 @@ ghost use Rattle.task_expand.specs.Lines.{is_task, task_line};
 ghost use Rattle.task_expand.specs.Lawful.{is_step, steps_of};
 
 use crate::said::Said;
+use crate::simple::{Stmt, What};
 use rt_base::Name;
-use task_parse::{Stmt, What};
 
 // The most cells that all arrays of all ranks may have together.
 pub const MOST_CELLS: u32 = 16_777_216;

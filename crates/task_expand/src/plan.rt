@@ -15,10 +15,10 @@ use crate::limits::keeps;
 use crate::refusal::ExpandRefusal;
 use crate::regions::{is_receive, span_len, test_cells};
 use crate::said::Said;
+use crate::simple::{PeerText, Stmt, What};
 use crate::work::Work;
 use rt_base::{Access, How, Span};
 use std::alloc::Global;
-use task_parse::{PeerText, Stmt, What};
 
 // The greatest tag (MPI 4.0, 3.2.3: at least that).
 const MOST_TAG: i64 = 32_767;

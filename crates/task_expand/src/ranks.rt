@@ -9,10 +9,10 @@ ghost use Rattle.task_expand.specs.Ranks.{IsTaskFor, HasBodies};
 
 use crate::plan::Plan;
 use crate::refusal::ExpandRefusal;
+use crate::simple::PeerText;
 use crate::work::Work;
 use rt_base::{Accesses, Body, Kernel, Lens, Op, Peer, TagSel, TaskDef, Tasks};
 use std::alloc::{AllocError, Global};
-use task_parse::PeerText;
 
 // The rank of this number, if there is one.
 fn rank_of(ranks: u16, number: i64) -> Option<u16>

@@ -8,8 +8,8 @@ use thiserror::Error;
 /// Why there is no program.
 #[derive(Debug, Drop, Error)]
 pub enum ExpandRefusal {
-    /// The text meets a fault or a limit.
-    #[error("the text meets a fault or a limit")]
+    /// The text is of another form than the one that is run, or meets a fault or a limit.
+    #[error("the text is of another form, or meets a fault or a limit")]
     Refused,
     #[error("out of memory")]
     Memory,

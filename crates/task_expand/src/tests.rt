@@ -1,9 +1,9 @@
 //! Which texts are lawful, and what their programs are.
-use crate::expand;
+use crate::expansion::expand_lines;
+use crate::simple::{PeerText, SpanText, Stmt, What};
 use rt_base::{How, Kernel, Listed, Mode, Name, Op, Peer, Span, TagSel};
 use std::alloc::Global;
 use std::test::Fail;
-use task_parse::{PeerText, SpanText, Stmt, Tree, What};
 
 // A line of a text, with its names as text.
 #[derive(Clone, Copy)]
@@ -60,7 +60,7 @@ fn what(alloc: Global, line: Line) -> Result<What, Fail> {
     })
 }
 
-fn tree(alloc: Global, lines: &[Line]) -> Result<Tree, Fail> {
+fn tree(alloc: Global, lines: &[Line]) -> Result<Vec<Stmt>, Fail> {
     let mut stmts = Vec::new(alloc);
     let mut number: u32 = 0;
     for line in lines {
@@ -70,12 +70,12 @@ fn tree(alloc: Global, lines: &[Line]) -> Result<Tree, Fail> {
             what: what(alloc, *line)?,
         })?;
     }
-    Ok(Listed::from_vec(stmts))
+    Ok(stmts)
 }
 
 // Whether a text of these lines is lawful for two ranks.
 fn is_lawful(alloc: Global, lines: &[Line]) -> Result<bool, Fail> {
-    Ok(expand(alloc, &tree(alloc, lines)?, 2, 64).is_ok())
+    Ok(expand_lines(alloc, &tree(alloc, lines)?, 2, 64).is_ok())
 }
 
 #[test]
@@ -248,7 +248,7 @@ fn every_rank_has_its_task(rt: HostRuntime) -> Result<(), Fail> {
         Line::Posting(How::Send, 2, PeerText::AtMinusRank(1), 9),
         Line::End,
     ];
-    let program = expand(alloc, &tree(alloc, &lines)?, 2, 5)?;
+    let program = expand_lines(alloc, &tree(alloc, &lines)?, 2, 5)?;
     assert_eq!(rt; program.lens.as_slice(), [1, 3, 1, 3].as_slice());
     assert_eq!(rt; program.shows.as_slice(), [1].as_slice());
     assert_eq!(rt; (program.ranks, program.eager, program.comms), (2, 5, 1));

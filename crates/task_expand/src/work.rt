@@ -1,7 +1,7 @@
 //! Operations before the rank is known.
 
+use crate::simple::PeerText;
 use rt_base::{How, Span};
-use task_parse::PeerText;
 
 /// An operation with its names resolved: the same for every rank, but for the peer of a message.
 #[derive(Clone, Copy)]

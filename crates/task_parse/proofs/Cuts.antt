@@ -6,11 +6,11 @@ use Rattle.std.proofs.lemmas.List.Sums.{prefix_len-le-length}
 use Rattle.std.specs.List.{prefix_len, take_while}
 use Rattle.std.specs.Char.{is_ascii_digit}
 use Rattle.rt_base.specs.declared.data.FaultKind.{FaultKind}
-use Rattle.task_parse.specs.declared.sign.Sign.{Sign}
-use Rattle.task_parse.specs.declared.token.Token.{Token}
-use Rattle.task_parse.specs.declared.refusal.LineRefusal.{LineRefusal}
-use Rattle.task_parse.specs.declared.refusal.LineRefusal.TheVariants as variant
-use Rattle.task_parse.specs.Reading.{◌>>=◌, Fails}
+use Rattle.task_tree.specs.declared.sign.Sign.{Sign}
+use Rattle.task_tree.specs.declared.token.Token.{Token}
+use Rattle.task_tree.specs.declared.refusal.LineRefusal.{LineRefusal}
+use Rattle.task_tree.specs.declared.refusal.LineRefusal.TheVariants as variant
+use Rattle.task_tree.specs.Reading.{◌>>=◌, Fails}
 use Rattle.task_parse.specs.Signs.{sign_of_two}
 use Rattle.task_parse.proofs.Fronts.{chosen, one_dropped, front_none, front_more}
 use Rattle.task_parse.specs.Tokens.{is_blank, begins_name, is_in_name, after_blanks, is_over, with_len, longest_sign, number_at, word_at, sign_at, first_token, with_front, tokens_behind, tokens_of}

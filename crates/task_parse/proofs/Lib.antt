@@ -1,6 +1,15 @@
+pub mod Counts
 pub mod Cuts
-pub mod FormLemmas
+pub mod FormsFound
+pub mod FormsRead
 pub mod Fronts
 pub mod LineLemmas
+pub mod ListLemmas
+pub mod ListSteps
+pub mod Nesting
 pub mod Numbers
+pub mod OperandLemmas
+pub mod Outcomes
+pub mod PartLemmas
+pub mod Spots
 pub mod StatementLemmas

@@ -1,8 +1,12 @@
-pub mod Forms
-pub mod Reading
+pub mod Laws
+pub mod Openings
 pub mod Readings
+pub mod ReadingsOfLines
+pub mod ReadingsOfOperands
+pub mod ReadingsOfParts
 pub mod Signs
 pub mod Statements
 pub mod Tokens
 pub mod Trees
+pub mod Verdicts
 pub mod Words

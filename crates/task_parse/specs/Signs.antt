@@ -1,7 +1,7 @@
 -- The signs of the text language (this project's).
 use Rattle.std.specs.Prelude.{ℕ, List, [], ◌∷◌, Option, codes}
-use Rattle.task_parse.specs.declared.sign.Sign.{Sign}
-use Rattle.task_parse.specs.declared.sign.Sign.TheVariants as sign
+use Rattle.task_tree.specs.declared.sign.Sign.{Sign}
+use Rattle.task_tree.specs.declared.sign.Sign.TheVariants as sign
 use Rattle.task_parse.specs.Words.{lookup}
 
 -- the signs of two bytes

@@ -4,11 +4,11 @@ use Rattle.std.specs.List.{take_while}
 use Rattle.std.specs.Char.{is_ascii_digit, is_ascii_alphabetic}
 use Rattle.rt_base.specs.declared.data.FaultKind.{FaultKind}
 use Rattle.rt_base.specs.declared.data.FaultKind.TheVariants as fault
-use Rattle.task_parse.specs.declared.key.Key.{Key}
-use Rattle.task_parse.specs.declared.sign.Sign.{Sign}
-use Rattle.task_parse.specs.declared.token.Token.{Token}
-use Rattle.task_parse.specs.declared.token.Token.TheVariants as token
-use Rattle.task_parse.specs.Reading.{◌>>=◌}
+use Rattle.task_tree.specs.declared.key.Key.{Key}
+use Rattle.task_tree.specs.declared.sign.Sign.{Sign}
+use Rattle.task_tree.specs.declared.token.Token.{Token}
+use Rattle.task_tree.specs.declared.token.Token.TheVariants as token
+use Rattle.task_tree.specs.Reading.{◌>>=◌}
 use Rattle.task_parse.specs.Words.{key_of}
 use Rattle.task_parse.specs.Signs.{sign_of_two, sign_of_one}
 

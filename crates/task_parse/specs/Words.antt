@@ -2,8 +2,8 @@
 use Rattle.std.specs.Prelude.{ℕ, List, [], ◌∷◌, Option, Some, None, codes, if◌then◌else◌}
 use Rattle.std.specs.Option.{option_or}
 use Rattle.std.specs.Str.{bytes_eq}
-use Rattle.task_parse.specs.declared.key.Key.{Key}
-use Rattle.task_parse.specs.declared.key.Key.TheVariants as key
+use Rattle.task_tree.specs.declared.key.Key.{Key}
+use Rattle.task_tree.specs.declared.key.Key.TheVariants as key
 
 -- what the table has for these bytes
 abbrev pub lookup : {T : Type 0} → List (List ℕ × T) → List ℕ → Option T

@@ -1,21 +1,26 @@
 //! The text language: from the bytes of a text to the tree of its statements.
 #![tactic(auto)]
 
+mod block;
 mod bytes;
-mod form;
-mod key;
 mod laws;
+mod line;
+mod operand;
+mod part;
 mod refusal;
-mod sign;
+mod signs;
 mod statement;
 mod text;
 mod token;
-mod tree;
+mod words;
 
-pub use laws::{one_statement_a_line, statements_are_read};
+pub use laws::{
+    one_outcome_a_text, one_statement_a_line, shape_is_the_fault, statement_is_spelled,
+};
 pub use refusal::ParseRefusal;
 pub use text::parse;
-pub use tree::{PeerText, SpanText, Stmt, Tree, What};
 
+#[cfg(test)]
+mod statement_tests;
 #[cfg(test)]
 mod tests;

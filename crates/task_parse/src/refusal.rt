@@ -1,4 +1,4 @@
-//! Why a text, or one line of it, was not read.
+//! Why a text was not read.
 
 ghost use Rattle.std.specs.Prelude.{◌≡◌};
 
@@ -9,40 +9,11 @@ use thiserror::Error;
 /// Why there is no tree.
 #[derive(Debug, Drop, Error)]
 pub enum ParseRefusal {
-    /// The text has not the form that is read.
-    #[error("the text has not the form that is read")]
-    Form,
+    /// The first faulty line, counted from 1, and its fault.
+    #[error("line {line} has a fault")]
+    Fault { line: u32, kind: FaultKind },
     #[error("out of memory")]
     Memory,
-}
-
-/// Why a line was not read: its first fault, or want of memory.
-#[derive(Debug, Drop)]
-pub enum LineRefusal {
-    Fault(FaultKind),
-    Memory,
-}
-
-impl From<AllocError> for LineRefusal {
-    ghost use Rattle.task_parse.specs.declared.refusal.LineRefusal.TheVariants as refusal;
-    ghost use Rattle.std.specs.Prelude.{◌≡◌};
-
-    ghost from_gives = { λ _ e. e ≡ refusal.Memory };
-
-    fn from(_refused: AllocError) -> LineRefusal {
-        LineRefusal::Memory
-    }
-}
-
-impl<T: Drop> From<AllocFailed<T>> for LineRefusal {
-    ghost use Rattle.task_parse.specs.declared.refusal.LineRefusal.TheVariants as refusal;
-    ghost use Rattle.std.specs.Prelude.{◌≡◌};
-
-    ghost from_gives = { λ _ e. e ≡ refusal.Memory };
-
-    fn from(_refused: AllocFailed<T>) -> LineRefusal {
-        LineRefusal::Memory
-    }
 }
 
 impl From<AllocError> for ParseRefusal {

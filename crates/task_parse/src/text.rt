@@ -1,23 +1,25 @@
 //! From the bytes of a text to its tree.
 
-ghost use Rattle.std.specs.Prelude.{◌≡◌, ◌==◌, ◌∷◌, ◌+◌, ◌<◌, ◌≤◌, ◌^◌, List, length, not, true, Contains, MatchResult, IfOk, OnOk};
+ghost use Rattle.std.specs.Prelude.{◌≡◌, ◌==◌, ◌∷◌, ◌+◌, ◌<◌, ◌≤◌, ◌^◌, ◌⊎◌, ℕ, List, [], length, not, IfErr, IfOk, MatchResult};
 ghost use Rattle.std.specs.List.{prefix_len};
-ghost use Rattle.task_parse.specs.declared.tree.Stmt.{Stmt};
+ghost use Rattle.rt_base.specs.declared.data.FaultKind.{FaultKind};
+ghost use Rattle.task_tree.specs.Reading.{Gives};
+ghost use Rattle.task_tree.specs.declared.tree.Stmt.{Stmt};
 ghost use Rattle.task_parse.specs.declared.refusal.ParseRefusal.TheVariants as refusal;
-ghost use Rattle.task_parse.specs.Reading.{Gives};
-ghost use Rattle.task_parse.specs.Trees.{lines_of, said, what_of, with_line, statements, IsTree};
-ghost use Rattle.task_parse.specs.Forms.{is_form_two};
+ghost use Rattle.task_parse.specs.Trees.{lines_of, IsTree, IsFirstFault, IsReason};
+ghost use Rattle.task_parse.specs.Verdicts.{said, what_of, with_line, numbered, verdict, GivesAt};
 
+use crate::block::OpenBlocks;
 use crate::bytes::{behind, front};
-use crate::form::is_form_two;
-use crate::refusal::{LineRefusal, ParseRefusal};
+use crate::refusal::ParseRefusal;
 use crate::statement::statement;
-use crate::token::{Token, tokens_of};
-use crate::tree::{Stmt, Tree, What};
+use crate::token::tokens_of;
+use rt_base::FaultKind;
 use std::alloc::Global;
+use task_tree::{LineRefusal, Stmt, Token, Tree, What};
 
 // What the tokens of a line say. A blank line says nothing.
-fn said(alloc: Global, tokens: &[Token]) -> Result<Option<What>, LineRefusal>
+fn said(alloc: Global, tokens: &[Token]) -> Result<Option<(What, u32)>, LineRefusal>
     ensures { Gives (λ x. x) result (said tokens.now) }
 {
     match tokens {
@@ -27,8 +29,8 @@ fn said(alloc: Global, tokens: &[Token]) -> Result<Option<What>, LineRefusal>
 }
 
 // What a line says.
-#[tactic(auto, unfolding(crate::specs::Trees::what_of))]
-fn what_of(alloc: Global, line: &[u8]) -> Result<Option<What>, LineRefusal>
+#[tactic(auto, unfolding(crate::specs::Verdicts::what_of))]
+fn what_of(alloc: Global, line: &[u8]) -> Result<Option<(What, u32)>, LineRefusal>
     ensures { Gives (λ x. x) result (what_of line.now) }
 {
     let tokens = tokens_of(alloc, line)?;
@@ -58,62 +60,71 @@ fn first_line(text: &[u8]) -> (&[u8], &[u8])
     }
 }
 
-// Puts what one line says behind the statements so far.
+// Puts what one line says behind the statements so far, and goes on to the blocks that are open behind it.
 fn read_line(
     alloc: Global,
     line: &[u8],
     number: u32,
+    blocks: &mut OpenBlocks,
     stmts: &mut Vec<Stmt>,
 ) -> Result<(), LineRefusal>
-    ensures { Gives (λ _. stmts.new.items) result (with_line stmts.old.items number line.now) }
+    ensures { Gives (λ _. (stmts.new.items, blocks.new)) result (with_line stmts.old.items blocks.old number line.now) }
 {
-    if let Some(what) = what_of(alloc, line)? {
+    if let Some((what, depth)) = what_of(alloc, line)? {
+        blocks.step(&what, depth)?;
         stmts.push(Stmt { line: number, what })?;
     }
     Ok(())
 }
 
+// The refusal of the line of this number is one of the text.
+fn numbered(number: u32, refusal: LineRefusal) -> ParseRefusal
+    ensures { result ≡ numbered number refusal }
+{
+    match refusal {
+        LineRefusal::Fault(kind) => ParseRefusal::Fault { line: number, kind },
+        LineRefusal::Memory => ParseRefusal::Memory,
+    }
+}
+
 // The statements of all lines, or the first fault.
-#[tactic(auto, using(crate::proofs::Fronts::front_none))]
-fn read_lines(alloc: Global, text: &[u8]) -> Result<Vec<Stmt>, LineRefusal>
+fn read_lines(alloc: Global, text: &[u8]) -> Result<Vec<Stmt>, ParseRefusal>
     requires { length text.now + 1 < 2 ^ 32 }
-    ensures { Gives (λ v. v.items) result (statements 1 (lines_of text.now)) }
+    ensures { GivesAt (λ v. v.items) result (verdict 1 [] (lines_of text.now)) }
 {
     let mut stmts = Vec::new(alloc);
+    let mut blocks = OpenBlocks::none(alloc);
     let mut rest = text;
     let mut number: u32 = 1;
     while !rest.is_empty() {
         let (line, more) = first_line(rest);
-        read_line(alloc, line, number, &mut stmts)?;
+        if let Err(refusal) = read_line(alloc, line, number, &mut blocks, &mut stmts) {
+            return Err(numbered(number, refusal));
+        }
         rest = more;
         number += 1;
+    }
+    if !blocks.is_empty() {
+        return Err(ParseRefusal::Fault {
+            line: number,
+            kind: FaultKind::Open,
+        });
     }
     Ok(stmts)
 }
 
-/// The tree of a text of form two, which has no comment. `Form` comes exactly where the text is not of that form.
+/// The tree of a text, or its first fault. Time grows with the number of bytes.
+#[tactic(auto, using(crate::proofs::Outcomes::verdict_is, crate::proofs::Outcomes::outcome_is))]
 pub fn parse(alloc: Global, text: &[u8]) -> Result<Tree, ParseRefusal>
     requires { length text.now + 1 < 2 ^ 32 }
-    ensures found { IfOk result (λ tree. IsTree 1 (lines_of text.now) tree.items) }
-    ensures form { IfOk result (λ tree. is_form_two tree.items ≡ true) }
-    ensures no_comment { OnOk result (¬ Contains text.now 35) }
+    ensures tree { IfOk result (λ tree. IsTree text.now tree.items) }
+    ensures fault { IfErr result (λ reason. IsReason text.now reason) }
 
-    // Every tree of that form is the one that is found, unless memory runs out.
-    ensures only { (stmts : List Stmt) → IsTree 1 (lines_of text.now) stmts → is_form_two stmts ≡ true → ¬ Contains text.now 35
-        → MatchResult result (λ tree. tree.items ≡ stmts) (λ e. e ≡ refusal.Memory) }
+    // The text's tree is the one that is found, and its first fault the one that is answered, unless memory runs out.
+    ensures only_tree { (stmts : List Stmt) → IsTree text.now stmts → MatchResult result (λ tree. tree.items ≡ stmts) (λ reason. reason ≡ refusal.Memory) }
+    ensures only_fault { (number : ℕ) (kind : FaultKind) → IsFirstFault text.now number kind
+        → MatchResult result (λ _. ⊥) (λ reason. (reason ≡ refusal.Fault number kind) ⊎ (reason ≡ refusal.Memory)) }
 {
-    if text.contains(&b'#') {
-        return Err(ParseRefusal::Form);
-    }
-    match read_lines(alloc, text) {
-        Ok(stmts) => {
-            if is_form_two(stmts.as_slice()) {
-                Ok(Tree::from_vec(stmts))
-            } else {
-                Err(ParseRefusal::Form)
-            }
-        }
-        Err(LineRefusal::Fault(_)) => Err(ParseRefusal::Form),
-        Err(LineRefusal::Memory) => Err(ParseRefusal::Memory),
-    }
+    let stmts = read_lines(alloc, text)?;
+    Ok(Tree::from_vec(stmts))
 }

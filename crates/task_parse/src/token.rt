@@ -1,24 +1,15 @@
-//! The tokens of a line.
+//! From the bytes of a line to its tokens.
 
 ghost use Rattle.std.specs.Prelude.{◌≡◌};
-ghost use Rattle.task_parse.specs.Reading.{Gives};
+ghost use Rattle.task_tree.specs.Reading.{Gives};
 ghost use Rattle.task_parse.specs.Tokens.{number_token, word_token, number_at, word_at, sign_at, first_token, tokens_of};
 
 use crate::bytes::{after_blanks, begins_name, behind, digits, front, is_over, word};
-use crate::key::{Key, key_of};
-use crate::refusal::LineRefusal;
-use crate::sign::{Sign, sign_of_one, sign_of_two};
+use crate::signs::{sign_of_one, sign_of_two};
+use crate::words::key_of;
 use rt_base::{FaultKind, Name};
 use std::alloc::Global;
-
-/// A token: a name, a reserved word, a number or a sign.
-#[derive(Debug, Drop)]
-pub enum Token {
-    Name(Name),
-    Key(Key),
-    Number(i64),
-    Sign(Sign),
-}
+use task_tree::{LineRefusal, Token};
 
 /// The greatest length of a name, in bytes.
 pub const MAX_NAME: usize = 32;

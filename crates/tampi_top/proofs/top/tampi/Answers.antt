@@ -17,12 +17,12 @@ returns-in-Ran-clause-broken g c = λ fails.
 
 pub returns-in-Refused-clause-told : goal.returns-in-Refused-clause-told
 returns-in-Refused-clause-told g c = λ whole has_memory.
-    let written = c.refused.ensures.written whole in
+    let written = c.refuse.ensures.written whole has_memory in
     let why = c.in-Refused.refusal in
-    (ending.Refused why, refusal_text why, written.0, (c.in-Refused.ensures, refl, c.refused.ensures.entries, c.refused.ensures.statuses), written.1)
+    (ending.Refused why, refusal_text why, written.0, (c.in-Refused.ensures, refl, c.refuse.ensures.entries, c.refuse.ensures.statuses), written.1)
 
 pub returns-in-Refused-clause-broken : goal.returns-in-Refused-clause-broken
 returns-in-Refused-clause-broken g c = λ fails.
-    let broken = c.refused.ensures.broken fails in
+    let broken = c.refuse.ensures.broken fails in
     let why = c.in-Refused.refusal in
-    (ending.Refused why, refusal_text why, broken.0, (c.in-Refused.ensures, refl, c.refused.ensures.entries, c.refused.ensures.statuses), broken.1)
+    (ending.Refused why, refusal_text why, broken.0, (c.in-Refused.ensures, refl, c.refuse.ensures.entries, c.refuse.ensures.statuses), broken.1)

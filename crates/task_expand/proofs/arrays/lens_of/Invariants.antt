@@ -1,5 +1,5 @@
 use Rattle.std.proofs.Common.{◌≡◌, drop}
-use Rattle.task_parse.specs.declared.tree.Stmt.{Stmt}
+use Rattle.task_expand.specs.declared.simple.Stmt.{Stmt}
 use Rattle.task_expand.specs.Said.{all_said}
 use Rattle.task_expand.specs.Arrays.{lens_of, len_of}
 use Rattle.task_expand.proofs.Saying.{behind}

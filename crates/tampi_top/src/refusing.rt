@@ -1,0 +1,75 @@
+//! The one line of a call that runs nothing.
+ghost use Rattle.std.specs.Prelude.{◌≡◌, ◌++◌, IfOk, OnOk};
+ghost use Rattle.tampi_top.specs.Ending.{kind_text, fault_text, refusal_text};
+
+use crate::ending::Refusal;
+use crate::report::{put, put_number};
+use rt_base::FaultKind;
+use std::alloc::{AllocError, Global};
+
+// The name of a kind of fault.
+fn kind_text(kind: FaultKind) -> &'static str
+    ensures { result.now ≡ kind_text kind }
+{
+    match kind {
+        FaultKind::Byte => "Byte",
+        FaultKind::Number => "Number",
+        FaultKind::Name => "Name",
+        FaultKind::Shape => "Shape",
+        FaultKind::Depth => "Depth",
+        FaultKind::Place => "Place",
+        FaultKind::Open => "Open",
+        FaultKind::UnknownName => "UnknownName",
+        FaultKind::NameTaken => "NameTaken",
+        FaultKind::Overflow => "Overflow",
+        FaultKind::DivisionByZero => "DivisionByZero",
+        FaultKind::BadSize => "BadSize",
+        FaultKind::BadSpan => "BadSpan",
+        FaultKind::BadRank => "BadRank",
+        FaultKind::BadTag => "BadTag",
+        FaultKind::AccessOverlap => "AccessOverlap",
+        FaultKind::NotDeclared => "NotDeclared",
+        FaultKind::NotWritable => "NotWritable",
+        FaultKind::LengthMismatch => "LengthMismatch",
+        FaultKind::BadShift => "BadShift",
+        FaultKind::EmptySource => "EmptySource",
+        FaultKind::StatusLength => "StatusLength",
+        FaultKind::RequestTwice => "RequestTwice",
+        FaultKind::RequestBusy => "RequestBusy",
+        FaultKind::InUse => "InUse",
+        FaultKind::RequestLeft => "RequestLeft",
+        FaultKind::NoTrace => "NoTrace",
+        FaultKind::TraceHeader => "TraceHeader",
+    }
+}
+
+// Puts the line of a fault of the text behind the text.
+fn put_fault(
+    alloc: Global,
+    text: &mut Vec<u8>,
+    line: u32,
+    kind: FaultKind,
+) -> Result<(), AllocError>
+    ensures { OnOk result (text.new.items ≡ text.old.items ++ fault_text line kind) }
+{
+    put(text, "refused ")?;
+    put_number(alloc, text, line)?;
+    put(text, " ")?;
+    put(text, kind_text(kind))?;
+    put(text, "\n")
+}
+
+/// The one line of a refusal, with its LF.
+pub fn line_of(alloc: Global, refusal: Refusal) -> Result<Vec<u8>, AllocError>
+    ensures { IfOk result (λ text. text.items ≡ refusal_text refusal) }
+{
+    let mut text = Vec::new(alloc);
+    match refusal {
+        Refusal::Words => put(&mut text, "words refused\n")?,
+        Refusal::ReadFault => put(&mut text, "read fault\n")?,
+        Refusal::TooLong => put(&mut text, "too long\n")?,
+        Refusal::Fault { line, kind } => put_fault(alloc, &mut text, line, kind)?,
+        Refusal::NotBuilt => put(&mut text, "not built\n")?,
+    }
+    Ok(text)
+}

@@ -1,0 +1,5 @@
+pub mod Taking
+pub mod Reduces
+pub mod Complete
+pub mod Depths
+pub mod Sound

@@ -1,0 +1,10 @@
+pub mod Term
+pub mod Code
+pub mod Seen
+pub mod Weight
+pub mod Reading
+pub mod Grammar
+pub mod Expressions
+pub mod Frames
+pub mod Blocks
+pub mod Laws

@@ -1,0 +1,11 @@
+-- The tree of an expression (this project's).
+use Rattle.std.specs.Prelude.{ℕ, ℤ, List}
+use Rattle.task_tree.specs.declared.operator.BinOp.{BinOp}
+
+pub data Term : Type 0 where
+  Number : ℤ → Term
+  Var : List ℕ → Term
+  Rank : Term
+  Size : Term
+  Neg : Term → Term
+  Two : BinOp → Term → Term → Term
