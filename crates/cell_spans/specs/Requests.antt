@@ -1,0 +1,73 @@
+-- What the table of a body keeps of its requests. No public clause cites this module.
+use Rattle.std.specs.Prelude.{◌≡◌, ℕ, zero, suc, ◌+◌, Bool, true, false, not, ◌&&◌, ◌||◌, List, [], ◌∷◌, ◌++◌, if◌then◌else◌}
+use Rattle.std.specs.List.{list_any}
+use Rattle.rt_base.specs.declared.data.Span.{Span}
+use Rattle.rt_base.specs.declared.data.Op.{Op}
+use Rattle.rt_base.specs.declared.data.Op.TheVariants as op
+use Rattle.rt_base.specs.declared.data.Handle.{Handle}
+use Rattle.rt_base.specs.declared.data.Handle.TheVariants as handle
+use Rattle.rt_base.specs.Operations.{blocks, is_receive}
+use Rattle.rt_base.specs.InUse.{completes, names_request, posts, bound_statuses}
+use Rattle.cell_spans.specs.Marks.{AreMarks}
+use Rattle.cell_spans.specs.declared.in_use.Request.{Request}
+use Rattle.cell_spans.specs.declared.in_use.SpansInUse.{SpansInUse}
+
+-- what is kept of a request whose posting stands before these operations
+abbrev pub request_of : ℕ → Op → List Op → List Request
+request_of n (op.Compute kernel dst left right value step) later = []
+request_of n (op.Post how span whom tag comm status) later =
+    record {
+      span = span;
+      receives = is_receive how;
+      used = not (blocks how || list_any (completes n) later);
+      named = blocks how || list_any (names_request n) later;
+    } ∷ []
+request_of n (op.Await later handles status) after = []
+
+-- and of all requests of these operations, the first of which posts the nth
+abbrev pub requests_of : ℕ → List Op → List Request
+requests_of n [] = []
+requests_of n (operation ∷ more) = request_of n operation more ++ requests_of (n + posts operation) more
+
+-- the spans in use of requests that pass the test
+abbrev pub spans_of : (Request → Bool) → List Request → List Span
+spans_of test [] = []
+spans_of test (request ∷ requests) = if request.used && test request then request.span ∷ spans_of test requests else spans_of test requests
+
+abbrev pub is_receiving : Request → Bool
+is_receiving request = request.receives
+
+abbrev pub is_sending : Request → Bool
+is_sending request = not request.receives
+
+-- a wait, or one that only binds, names the request
+abbrev pub noted : Bool → Request → Request
+noted later request = record request { used = request.used && later; named = true }
+
+abbrev pub noted_at : Bool → ℕ → List Request → List Request
+noted_at later n [] = []
+noted_at later zero (request ∷ requests) = noted later request ∷ requests
+noted_at later (suc n) (request ∷ requests) = request ∷ noted_at later n requests
+
+abbrev pub noted_by : Bool → Handle → List Request → List Request
+noted_by later handle.Null requests = requests
+noted_by later (handle.Nth n) requests = noted_at later n requests
+
+abbrev pub noted_by_all : Bool → List Handle → List Request → List Request
+noted_by_all later [] requests = requests
+noted_by_all later (first ∷ handles) requests = noted_by_all later handles (noted_by later first requests)
+
+-- the numbers of the requests that nothing waited for or named
+abbrev pub unnamed : ℕ → List Request → List ℕ
+unnamed n [] = []
+unnamed n (request ∷ requests) = (if request.named then [] else n ∷ []) ++ unnamed (n + 1) requests
+
+-- the bags have the spans in use of the requests, and these status spans
+pub record HasSpans (table : SpansInUse) (statuses : List Span) : Type 0 where
+  pub received : AreMarks table.received.begins table.received.ends (statuses ++ spans_of is_receiving table.requests.items)
+  pub sent : AreMarks table.sent.begins table.sent.ends (spans_of is_sending table.requests.items)
+
+-- the table stands behind these operations
+pub record Holds (table : SpansInUse) (earlier : List Op) : Type 0 where
+  pub requests : table.requests.items ≡ requests_of 0 earlier
+  pub spans : HasSpans table (bound_statuses earlier)

@@ -1,0 +1,4 @@
+pub mod Scopes
+pub mod Undoing
+pub mod Values
+pub mod Parts

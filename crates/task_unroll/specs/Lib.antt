@@ -1,0 +1,12 @@
+pub mod Unrolling
+pub mod Counting
+pub mod States
+pub mod Operands
+pub mod Checks
+pub mod Acts
+pub mod Blocks
+pub mod Ranks
+pub mod Laws
+pub mod Views
+pub mod Ends
+pub mod Steps
