@@ -1,0 +1,3 @@
+mod RankKept
+mod RankChain
+mod WholePrograms
