@@ -13,10 +13,10 @@ pub record KeepsLengths : Type 0 where
   pub of_shift : (left : List ℤ) (places : ℕ) → length (shifted left places) ≡ length left
   pub of_jacobi2 : (left : List ℤ) → length (jacobi left) ≡ length left - 2
 
--- a list has one least number (this project's)
+-- a list has at most one least number (this project's)
 abbrev pub HasOneLeast : Type 0
 HasOneLeast = (left : List ℤ) (one other : ℤ) → IsLeast left one → IsLeast left other → one ≡ other
 
--- a list has one greatest number (this project's)
+-- a list has at most one greatest number (this project's)
 abbrev pub HasOneGreatest : Type 0
 HasOneGreatest = (left : List ℤ) (one other : ℤ) → IsGreatest left one → IsGreatest left other → one ≡ other

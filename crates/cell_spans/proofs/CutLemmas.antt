@@ -1,5 +1,5 @@
 -- How the bounds of all accesses tell how many pieces there are.
-use Rattle.std.proofs.Common.{◌≡◌, ◌∙◌, ℕ, zero, suc, ◌+◌, ◌-◌, ◌*◌, ◌<◌, ◌≤◌, ◌↔◌, cond, Bool, true, false, ◌&&◌, ◌||◌, nat_eq, nat_lt, nat_le, List, [], ◌∷◌, ◌++◌, length, get_or, slice_index_or, take, Contains, count_by, sum_by, max, refl, sym, ap, append-nil, append_assoc, take_all, subst, arith, ◌⊎◌, inl, inr, ⊎_elim}
+use Rattle.std.proofs.Common.{◌≡◌, ◌∙◌, ℕ, zero, suc, ◌+◌, ◌-◌, ◌*◌, ◌<◌, ◌≤◌, ◌↔◌, cond, Bool, true, false, ◌&&◌, ◌||◌, nat_eq, nat_lt, nat_le, List, [], ◌∷◌, ◌++◌, length, get_or, slice_index_or, take, Contains, count_by, sum_by, max, refl, sym, ap, append-nil, append_assoc, take_all, subst, arith, ⊎_elim}
 use Rattle.std.specs.List.{list_any, AllByRecursion}
 use Rattle.std.specs.List.Sorted.{IsStrictlyIncreasing, IsNonDecreasing, IsStrictlySortedBy}
 use Rattle.std.specs.Ordering.{nat_cmp}
@@ -14,7 +14,7 @@ use Rattle.std.proofs.lemmas.Map.Keys.{sorted_from_strictly_increasing, non_decr
 use Rattle.rt_base.specs.declared.data.Span.{Span}
 use Rattle.rt_base.specs.declared.data.Access.{Access}
 use Rattle.rt_base.specs.declared.data.TaskDef.{TaskDef}
-use Rattle.rt_base.specs.Touched.{cells_of, numbers_from}
+use Rattle.rt_base.specs.Touched.{numbers_from}
 use Rattle.rt_base.specs.Pieces.{is_bound, is_bound_of, pieces_of, pieces}
 use Rattle.cell_spans.specs.Line.{IsSmall}
 use Rattle.cell_spans.specs.Covering.{AreSmall}

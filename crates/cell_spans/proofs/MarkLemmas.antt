@@ -1,14 +1,13 @@
 -- What the marks of a bag tell of its spans.
-use Rattle.std.proofs.Common.{◌≡◌, ◌≢◌, ◌∙◌, ℕ, zero, suc, ◌+◌, ◌-◌, ◌*◌, ◌<◌, ◌≤◌, max, min, cond, Bool, true, false, not, ◌&&◌, ◌||◌, ◌==◌, nat_eq, nat_lt, nat_le, List, [], ◌∷◌, ◌++◌, Option, Some, None, length, count_by, refl, sym, ap, arith, ◌⊎◌, inl, inr, ⊎_elim}
+use Rattle.std.proofs.Common.{◌≡◌, ◌∙◌, ℕ, ◌+◌, ◌<◌, ◌≤◌, max, min, cond, Bool, true, false, not, ◌&&◌, ◌||◌, nat_eq, nat_lt, List, [], ◌∷◌, Some, count_by, refl, sym, ap, arith, ⊎_elim}
 use Rattle.std.specs.List.{list_any}
-use Rattle.std.proofs.lemmas.Grind.{common_steps}
-use Rattle.std.proofs.lemmas.Bool.{cases_Bool, lt-ltb, le-ltb, ltb-true, false≢true, eqb-true, eqb-false, eq-eqb, or_left, or_from, and_right}
+use Rattle.std.proofs.lemmas.Bool.{cases_Bool, lt-ltb, le-ltb, or_left, or_from, and_right}
 use Rattle.cell_spans.specs.declared.line.Interval.{Interval}
 use Rattle.cell_spans.proofs.CoveringLemmas.{the_interval, some_cells}
 use Rattle.std.proofs.lemmas.Bool.Decides.{nat_tests}
 use Rattle.rt_base.specs.declared.data.Span.{Span}
 use Rattle.rt_base.specs.Touched.{shares, shares_any}
-use Rattle.cell_spans.specs.Line.{place, begin_of, end_of, is_some_span, IsSmall, interval_of}
+use Rattle.cell_spans.specs.Line.{begin_of, end_of, is_some_span, IsSmall, interval_of}
 use Rattle.cell_spans.specs.Marks.{AllSmall, AreMarks}
 use Rattle.cell_spans.proofs.CountLemmas.{count_first, count_yes, count_no}
 

@@ -1,7 +1,6 @@
 -- How the table of a task's accesses agrees with them. No public clause cites this module.
-use Rattle.std.specs.Prelude.{ℕ, ◌<◌, Bool, ◌&&◌, List, [], ◌∷◌, ⊤}
+use Rattle.std.specs.Prelude.{ℕ, Bool, ◌&&◌, List, [], ◌∷◌, ⊤}
 use Rattle.std.specs.List.{list_any}
-use Rattle.rt_base.specs.declared.data.Span.{Span}
 use Rattle.rt_base.specs.declared.data.Access.{Access}
 use Rattle.rt_base.specs.Spans.{is_written}
 use Rattle.cell_spans.specs.Line.{lies_in, IsSmall}

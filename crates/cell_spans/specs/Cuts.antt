@@ -1,5 +1,5 @@
 -- The bounds that cut the arrays, on one line of all ranks. No public clause cites this module.
-use Rattle.std.specs.Prelude.{ℕ, ◌+◌, ◌*◌, ◌<◌, Bool, nat_eq, List, [], ◌∷◌, ◌++◌, count_by, sum_by, ⊤}
+use Rattle.std.specs.Prelude.{ℕ, ◌+◌, ◌*◌, ◌<◌, nat_eq, List, [], ◌∷◌, ◌++◌, count_by, sum_by, ⊤}
 use Rattle.std.specs.List.{list_any}
 use Rattle.rt_base.specs.declared.data.Span.{Span}
 use Rattle.rt_base.specs.declared.data.Access.{Access}

@@ -1,4 +1,5 @@
 pub mod Line
+pub mod Bags
 pub mod Intervals
 pub mod Covering
 pub mod Marks

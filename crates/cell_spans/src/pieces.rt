@@ -7,7 +7,7 @@ ghost use Rattle.cell_spans.specs.Covering.{AreSmall};
 ghost use Rattle.cell_spans.specs.Line.{IsSmall};
 ghost use Rattle.cell_spans.specs.Cuts.{spot, bounds_of, all_bounds, AreTasksSmall, cut_cells, cut_by_accesses};
 
-use crate::ascending::count_below;
+use crate::sorted::count_below;
 use rt_base::{Access, Span, TaskDef};
 use std::alloc::{AllocError, Global};
 

@@ -5,16 +5,16 @@ ghost use Rattle.rt_base.specs.declared.data.Span.{Span};
 ghost use Rattle.rt_base.specs.Touched.{shares_any};
 ghost use Rattle.cell_spans.specs.Marks.{AreMarks};
 
-use crate::ascending::Ascending;
 use crate::line::interval_of;
+use crate::number_bag::NumberBag;
 use rt_base::Span;
 use std::alloc::{AllocError, Global};
 
 /// A bag of spans, as the places where they begin and those where they end. Empty spans leave no mark.
 #[derive(Drop)]
 pub(crate) struct SpanBag {
-    begins: Ascending,
-    ends: Ascending,
+    begins: NumberBag,
+    ends: NumberBag,
 }
 
 impl SpanBag {
@@ -23,8 +23,8 @@ impl SpanBag {
         ensures { AreMarks result.begins result.ends [] }
     {
         SpanBag {
-            begins: Ascending::empty(alloc),
-            ends: Ascending::empty(alloc),
+            begins: NumberBag::empty(alloc),
+            ends: NumberBag::empty(alloc),
         }
     }
 

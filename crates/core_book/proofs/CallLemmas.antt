@@ -26,7 +26,7 @@ use Rattle.rt_base.specs.Exchange.{Exchange, post, partner}
 use Rattle.rt_base.specs.Completion.{is_posted, is_complete, completes_alone}
 use Rattle.rt_base.specs.State.{State, Task, is_released}
 use Rattle.rt_base.specs.MayMove.{MayMove, MayMoveAt}
-use Rattle.rt_base.specs.WellFormed.{WellFormed, IsTask, IsOperation, IsPostingOf, IsDeclared}
+use Rattle.rt_base.specs.WellFormed.{WellFormed, IsTask, IsOperation, IsPostingOf, IsDeclared, region_cells}
 use Rattle.match_engine.specs.Switch.{Switch}
 use Rattle.match_engine.specs.Requests.{IsSend, IsReceive, Sends, Receives}
 use Rattle.region_deps.specs.Readiness.{Readiness}
@@ -36,7 +36,7 @@ use Rattle.task_local.specs.Regions.{cells_of_span, place}
 use Rattle.task_local.specs.Local.{advanced, stop, run_front, stop_at}
 use Rattle.task_local.specs.Packed.{packed, packed_by}
 use Rattle.task_local.specs.Standing.{phase_before, def_of, at_phase, at_operation, packed_next, Follows, IsCall, no_task}
-use Rattle.task_local.specs.StandsFor.{Record, StandsFor, StandsAs, declared_cells}
+use Rattle.task_local.specs.StandsFor.{Record, StandsFor, StandsAs}
 use Rattle.rt_base.specs.declared.data.How.TheVariants as how
 use Rattle.core_book.specs.Machine.{Moved, move, post_move, or_none, posted_task, noticed, awaited_at, is_expected, open_count, phase_at, bound_at}
 use Rattle.core_book.specs.Legal.{final}
@@ -205,7 +205,7 @@ operation_is p t k def x well is_def is_op =
     subst (IsOperation p def) (get_or_from_slice_get def.body.items k x x is_op) (task.body k x (slice_get_within def.body.items k x is_op))
 
 -- the cells of a declared span are all in the copy
-whole_span : (def : TaskDef) (span : Span) (copy : List ℤ) → IsDeclared def.accesses.items span → length copy ≡ declared_cells def → length (cells_of_span def span copy) ≡ span_len span
+whole_span : (def : TaskDef) (span : Span) (copy : List ℤ) → IsDeclared def.accesses.items span → length copy ≡ region_cells def → length (cells_of_span def span copy) ≡ span_len span
 whole_span def span copy declared counted =
     let fits = declared_fits def.accesses.items span declared in
     omega (arith, length-take (span_len span) (drop (place def span.array span.from) copy), length-drop (place def span.array span.from) copy)
@@ -222,12 +222,12 @@ call_packs p es held t k def how span status cells c packs =
     packs ∙ ap (λ (q : Phase). packed_next (def_of held.program held.task) q held.copy) c.at_call ∙ ap (λ (d : TaskDef). packed d k held.copy) c.held_def ∙ ap (packed def k) c.copy
 
 pub call_sends : (p : Program) (es : List Entry) (held : Record) (t k : ℕ) (def : TaskDef) (how : How) (span : Span) (status : Option Span) (cells : List ℤ) (n : ℕ) → (c : Calls p es held t k def how span status) → WellFormed p
-    → cells ≡ packed_next (def_of held.program held.task) held.phase held.copy → length held.copy ≡ declared_cells (def_of held.program held.task) → n ≡ nth_at def k
+    → cells ≡ packed_next (def_of held.program held.task) held.phase held.copy → length held.copy ≡ region_cells (def_of held.program held.task) → n ≡ nth_at def k
     → is_receive how ≡ false → IsSend p (record { task = task_no t; nth = n }) (length cells)
 call_sends p es held t k def how span status cells n c well packs counted nth sends =
     let x : Op = op.Post how span c.peer c.tag c.comm status in
     let declared = send_declares p def how span c.peer c.tag status sends (operation_is p t k def x well c.is_def c.is_op).0 in
-    let whole : length c.was.copy ≡ declared_cells def = ap (λ (cs : List ℤ). length cs) (sym c.copy) ∙ counted ∙ ap declared_cells c.held_def in
+    let whole : length c.was.copy ≡ region_cells def = ap (λ (cs : List ℤ). length cs) (sym c.copy) ∙ counted ∙ ap region_cells c.held_def in
     let is_cells : cells ≡ cells_of_span def span c.was.copy = call_packs p es held t k def how span status cells c packs ∙ packed_post def k c.was.copy how span c.peer c.tag c.comm status c.is_op
     ∙ ap (λ (b : Bool). cond b [] (cells_of_span def span c.was.copy)) sends in
     subst (Sends (length cells)) (sym (ap (λ (i : ℕ). posting_of p (request t i)) nth ∙ posting_is p t k def how span c.peer c.tag c.comm status c.is_def c.is_op))

@@ -144,7 +144,7 @@ statuses_more : (old more : List Status) → length more ≤ 1 → length (old +
 statuses_more old more few = omega (arith, length-append old more)
 
 -- a posting more in the body
-nth_at-suc : (def : TaskDef) (k : ℕ) (how : How) (span : Span) (peer : Peer) (tag : TagSel) (comm : ℕ) (status : Option Span) → slice_get def.body.items k ≡ Some (op.Post how span peer tag comm status)
+pub nth_at-suc : (def : TaskDef) (k : ℕ) (how : How) (span : Span) (peer : Peer) (tag : TagSel) (comm : ℕ) (status : Option Span) → slice_get def.body.items k ≡ Some (op.Post how span peer tag comm status)
     → nth_at def (k + 1) ≡ nth_at def k + 1
 nth_at-suc def k how span peer tag comm status here =
     let posting : Op = op.Post how span peer tag comm status in

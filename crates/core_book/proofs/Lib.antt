@@ -9,7 +9,12 @@ pub mod Changes
 pub mod BookLemmas
 pub mod BookMoves
 pub mod Questions
+pub mod CountLemmas
+pub mod Quiet
+pub mod CountMoves
 pub mod CallLemmas
+pub mod Numbers
+pub mod CountCalls
 pub mod LeaveLemmas
 pub mod Others
 pub mod Lines

@@ -1,5 +1,5 @@
 -- What a book answers of its tasks, in terms of its fields.
-use Rattle.std.proofs.Common.{◌≡◌, ℕ, ◌+◌, ◌<◌, ◌≤◌, ◌↔◌, Bool, true, false, ◌||◌, not, cond, List, [], ◌∷◌, length, map, slice_get, get_or, Some, None, Option, IsTrue, refl, sym, ap, ◌∙◌, subst, All, below_more, arith}
+use Rattle.std.proofs.Common.{◌≡◌, ℕ, ◌+◌, ◌<◌, ◌≤◌, ◌↔◌, Bool, true, false, ◌||◌, cond, List, [], ◌∷◌, length, map, slice_get, get_or, Some, None, Option, IsTrue, refl, sym, ap, ◌∙◌, subst, All, below_more, arith}
 use Rattle.std.specs.Prelude.{ℤ, option_map, ◌==◌, ◌&&◌}
 use Rattle.std.specs.List.{list_any}
 use Rattle.std.proofs.lemmas.Bool.Decides.{nat_tests}
@@ -18,16 +18,15 @@ use Rattle.rt_base.specs.declared.data.Program.{Program}
 use Rattle.rt_base.specs.Operations.{awaited, awaited_by, nth_at, request}
 use Rattle.rt_base.specs.Matching.{same_request}
 use Rattle.rt_base.specs.Precedes.{LetGo, MayStart}
-use Rattle.rt_base.specs.Exchange.{Exchange}
-use Rattle.rt_base.specs.Completion.{is_complete}
 use Rattle.rt_base.specs.State.{State, Task, let_go}
-use Rattle.rt_base.specs.MayMove.{MayMove, MayMoveAt, AreComplete}
+use Rattle.rt_base.specs.MayMove.{MayMove, MayMoveAt}
 use Rattle.match_engine.specs.Switch.{Switch}
 use Rattle.region_deps.specs.Readiness.{Readiness}
 use Rattle.task_local.specs.Standing.{no_task}
 use Rattle.core_book.specs.Legal.{final, IsQuiet, IsFinished}
 use Rattle.core_book.specs.Ledger.{Ledger}
-use Rattle.core_book.specs.Kept.{IsBook}
+use Rattle.core_book.specs.Kept.{IsBook, awaits_now}
+use Rattle.core_book.specs.Machine.{awaited_at}
 use Rattle.core_book.proofs.Lists.{slice_get-map}
 use Rattle.core_book.proofs.BookLemmas.{gone_of}
 
@@ -41,22 +40,6 @@ awaited_is t def k x here = ap (awaited_by t (nth_at def k)) here
 
 pub at_place : (ops : List Op) (k : ℕ) (found x : Op) → k < length ops → found ≡ get_or ops k found → found ≡ x → slice_get ops k ≡ Some x
 at_place ops k found x within read is = slice_get_read ops (length ops) k found refl within read ∙ ap Some is
-
-one_awaited : (p : Program) (e : Exchange) (req : ReqNo) (blocking : Bool) (result : Bool) → result ≡ (not blocking || is_complete p e req)
-    → IsTrue result ↔ AreComplete p e (cond blocking (req ∷ []) [])
-one_awaited p e req true result is = (λ yes. (sym is ∙ yes, tt), λ all. is ∙ all.0)
-one_awaited p e req false result is = (λ yes. tt, λ all. is)
-
-pub leaves_post : (p : Program) (e : Exchange) (t : ℕ) (def : TaskDef) (k : ℕ) (x : Op) (blocking : Bool) (result : Bool) → slice_get def.body.items k ≡ Some x
-    → awaited_by t (nth_at def k) (Some x) ≡ cond blocking (request t (nth_at def k) ∷ []) [] → result ≡ (not blocking || is_complete p e (request t (nth_at def k)))
-    → IsTrue result ↔ AreComplete p e (awaited t def k)
-leaves_post p e t def k x blocking result here listed is =
-    subst (λ (reqs : List ReqNo). IsTrue result ↔ AreComplete p e reqs) (sym (awaited_is t def k x here ∙ listed)) (one_awaited p e (request t (nth_at def k)) blocking result is)
-
-pub leaves_listed : (p : Program) (e : Exchange) (t : ℕ) (def : TaskDef) (k : ℕ) (x : Op) (reqs : List ReqNo) (result : Bool) → slice_get def.body.items k ≡ Some x
-    → awaited_by t (nth_at def k) (Some x) ≡ reqs → (IsTrue result ↔ AreComplete p e reqs) → IsTrue result ↔ AreComplete p e (awaited t def k)
-leaves_listed p e t def k x reqs result here listed is =
-    subst (λ (listed : List ReqNo). IsTrue result ↔ AreComplete p e listed) (sym (awaited_is t def k x here ∙ listed)) is
 
 -- the task that stands there
 pub record Standing (s : State) (t : ℕ) (at : Phase) : Type 0 where
@@ -109,15 +92,6 @@ waiting_answer p w ready m phs x ns es ss a b c t result book answer =
     subst (λ (g : LetGo). IsTrue result ↔ MayStart p g t) (gone_of p w ready m phs x ns es ss a b c book)
     (subst (λ (q : Program). IsTrue result ↔ MayStart q ready.gone t) book.of_program answer)
 
-pub leaving_answer : (p : Program) (w : ℕ) (ready : Readiness) (m : List ℤ) (phs : List Phase) (x : Switch) (ns : List ReqNo) (es : List Entry) (ss : List Status) (a b c : ℕ) (reqs : List ReqNo) (result : Bool)
-    → IsBook p w ready m phs x ns es ss a b c → (IsTrue result ↔ AreComplete x.program x.exchange reqs) → IsTrue result ↔ AreComplete p (final p es).exchange reqs
-leaving_answer p w ready m phs x ns es ss a b c reqs result book answer =
-    subst (λ (e : Exchange). IsTrue result ↔ AreComplete p e reqs) book.kept.exchange_is (subst (λ (q : Program). IsTrue result ↔ AreComplete q x.exchange reqs) book.engine_of answer)
-
--- a returned task has bound no request
-pub returned_answer : (p : Program) (s : State) (t : ℕ) (task : Task) → task.bound ≡ [] → AreComplete p s.exchange task.bound
-returned_answer p s t task nothing = subst (AreComplete p s.exchange) (sym nothing) tt
-
 longer_map : (tasks : List Task) (k : ℕ) → k < length tasks → k < length (map (λ (z : Task). z.phase) tasks)
 longer_map tasks k within = omega (arith, length-map tasks (λ (z : Task). z.phase))
 
@@ -163,18 +137,6 @@ finished_answer p w ready m phs phs' x ns es ss a b c result l book view seen an
 abbrev pub NoneBefore : Program → State → ℕ → Type 0
 NoneBefore p s t = (u : ℕ) → u < t → MayMove p s u → ⊥
 
--- one definition for one task
-pub same_task_def : (p prog : Program) (w : ℕ) (es : List Entry) (ss : List Status) (handed : List Bool) (t : ℕ) (one def : TaskDef) (l : Ledger)
-    → record { program = p; workers = w; history = es; statuses = ss; handed = handed } ≡ l → prog ≡ l.program → slice_get prog.tasks.items t ≡ Some one → slice_get p.tasks.items t ≡ Some def → one ≡ def
-same_task_def p prog w es ss handed t one def l view same is_one is_def =
-    let programs : prog ≡ p = same ∙ sym (ap (λ (z : Ledger). z.program) view) in
-    same_item (sym (subst (λ (z : Program). slice_get z.tasks.items t ≡ Some one) programs is_one) ∙ is_def)
-
--- nothing is awaited past the end of the body
-pub awaited_past : (p : Program) (e : Exchange) (t : ℕ) (def : TaskDef) (k : ℕ) → length def.body.items ≤ k → AreComplete p e (awaited t def k)
-unfolding awaited
-awaited_past p e t def k past = subst (λ (o : Option Op). AreComplete p e (awaited_by t (nth_at def k) o)) (sym (slice_get_past def.body.items k past)) tt
-
 before : (u t : ℕ) (p : Program) (s : State) → length p.tasks.items ≤ t → MayMove p s u → u < t
 before u t p s all may = omega (arith, slice_get_within p.tasks.items u may.def may.is_def)
 
@@ -205,3 +167,36 @@ same_nth req n = one_nth req.task.0 n req.nth
 pub one_among : (req : ReqNo) (n : ℕ) (blocking : Bool) (result : Bool) → result ≡ (blocking && (n == req.nth)) → result ≡ list_any (same_request req) (cond blocking (request req.task.0 n ∷ []) [])
 one_among req n true result is = is ∙ same_nth req n
 one_among req n false result is = is
+
+-- a task that is not in an operation awaits nothing
+abbrev pub is_in : Phase → Bool
+is_in phase.Waiting = false
+is_in (phase.At k) = false
+is_in (phase.In k) = true
+is_in phase.Ended = false
+is_in phase.Returned = false
+is_in phase.Released = false
+
+awaits_none : (req : ReqNo) (o : Option TaskDef) (at : Phase) → is_in at ≡ false → false ≡ list_any (same_request req) (awaited_at req.task.0 o (Some at))
+awaits_none req None at out = refl
+awaits_none req (Some def) phase.Waiting out = refl
+awaits_none req (Some def) (phase.At k) out = refl
+awaits_none req (Some def) (phase.In k) out = absurd (cc out)
+awaits_none req (Some def) phase.Ended out = refl
+awaits_none req (Some def) phase.Returned out = refl
+awaits_none req (Some def) phase.Released out = refl
+
+-- the phase of a task, as it is read
+pub phase_at_place : (phs : List Phase) (t : ℕ) (at : Phase) → t < length phs → get_or phs t phase.Waiting ≡ at → slice_get phs t ≡ Some at
+phase_at_place phs t at within read = slice_get-get_or phs t phase.Waiting within ∙ ap Some read
+
+pub awaits_nothing : (p : Program) (phs : List Phase) (req : ReqNo) (at : Phase) → req.task.0 < length phs → get_or phs req.task.0 phase.Waiting ≡ at → is_in at ≡ false → false ≡ awaits_now p phs req
+awaits_nothing p phs req at within read out =
+    awaits_none req (slice_get p.tasks.items req.task.0) at out
+    ∙ ap (λ (q : Option Phase). list_any (same_request req) (awaited_at req.task.0 (slice_get p.tasks.items req.task.0) q)) (sym (phase_at_place phs req.task.0 at within read))
+
+pub awaits_there : (p : Program) (phs : List Phase) (req : ReqNo) (k : ℕ) (def : TaskDef) (result : Bool) → req.task.0 < length phs → get_or phs req.task.0 phase.Waiting ≡ phase.In k → slice_get p.tasks.items req.task.0 ≡ Some def
+    → result ≡ list_any (same_request req) (awaited req.task.0 def k) → result ≡ awaits_now p phs req
+awaits_there p phs req k def result within read is_def is =
+    is ∙ ap (λ (o : Option TaskDef). list_any (same_request req) (awaited_at req.task.0 o (Some (phase.In k)))) (sym is_def)
+    ∙ ap (λ (q : Option Phase). list_any (same_request req) (awaited_at req.task.0 (slice_get p.tasks.items req.task.0) q)) (sym (phase_at_place phs req.task.0 (phase.In k) within read))

@@ -1,5 +1,5 @@
 -- How a book keeps the state after its history. No public clause cites this module.
-use Rattle.std.specs.Prelude.{◌≡◌, ◌≢◌, ℕ, ◌+◌, ◌-◌, ◌*◌, ◌<◌, ◌≤◌, Bool, true, false, List, [], ◌∷◌, map, length, slice_get, Option, Some, None, ℤ, sum_by, not, ◌&&◌, ⊤, if◌then◌else◌}
+use Rattle.std.specs.Prelude.{◌≡◌, ◌≢◌, ℕ, ◌+◌, ◌-◌, ◌*◌, ◌<◌, ◌≤◌, Bool, true, false, List, [], ◌∷◌, map, length, slice_get, slice_set, slice_index_or, count_by, ◌==◌, Option, Some, None, ℤ, sum_by, not, ◌&&◌, ⊤, if◌then◌else◌}
 use Rattle.std.specs.List.{list_any}
 use Rattle.rt_base.specs.declared.data.ReqNo.{ReqNo}
 use Rattle.rt_base.specs.declared.data.Phase.{Phase}
@@ -8,8 +8,6 @@ use Rattle.rt_base.specs.declared.data.Span.{Span}
 use Rattle.rt_base.specs.declared.data.Peer.{Peer}
 use Rattle.rt_base.specs.declared.data.TagSel.{TagSel}
 use Rattle.rt_base.specs.declared.data.How.{How}
-use Rattle.rt_base.specs.declared.data.Handle.{Handle}
-use Rattle.rt_base.specs.declared.data.Handle.TheVariants as handle
 use Rattle.rt_base.specs.declared.data.Op.{Op}
 use Rattle.rt_base.specs.declared.data.Op.TheVariants as op
 use Rattle.rt_base.specs.declared.data.Status.{Status}
@@ -19,16 +17,16 @@ use Rattle.rt_base.specs.declared.data.Program.{Program}
 use Rattle.rt_base.specs.Layout.{memory_len}
 use Rattle.rt_base.specs.Operations.{request, postings, nth_at, is_receive, posting_of}
 use Rattle.rt_base.specs.Matching.{same_request}
-use Rattle.rt_base.specs.Precedes.{LetGo}
+use Rattle.rt_base.specs.Precedes.{LetGo, MayStart}
 use Rattle.rt_base.specs.Exchange.{Exchange}
-use Rattle.rt_base.specs.Completion.{is_posted, is_complete, completes_alone, request_status}
-use Rattle.rt_base.specs.State.{State, Task, let_go_at}
+use Rattle.rt_base.specs.Completion.{is_posted, completes_alone, request_status}
+use Rattle.rt_base.specs.State.{State, Task, is_released, let_go_at}
 use Rattle.rt_base.specs.WellFormed.{WellFormed}
 use Rattle.match_engine.specs.Switch.{Switch}
 use Rattle.region_deps.specs.Readiness.{Readiness, IsWhole}
 use Rattle.task_local.specs.declared.standing.At.{At}
 use Rattle.task_local.specs.declared.standing.At.TheVariants as at
-use Rattle.core_book.specs.Machine.{awaited_at}
+use Rattle.core_book.specs.Machine.{awaited_at, open_count}
 use Rattle.core_book.specs.Legal.{IsLegal, final}
 
 -- at most how many moves a task that stands there has left, if its body has so many operations
@@ -85,6 +83,42 @@ pub record IsKept (program : Program) (workers : ℕ) (entries : List Entry) (st
   pub status_room : length statuses + all_left program.tasks.items phases ≤ status_places
   pub notice_room : length notices + all_left program.tasks.items phases ≤ notice_places
 
+-- the number is 0
+abbrev pub is_zero : ℕ → Bool
+is_zero n = n == 0
+
+-- a task that stands there is not released
+abbrev pub is_held : Phase → Bool
+is_held at = not (is_released at)
+
+-- for how many things a task that stands there waits before its next move: to be handed out, for the requests that it awaits,
+-- or for what never comes
+abbrev pub waits_at : Program → Exchange → List Bool → ℕ → Phase → ℕ
+waits_at program exchange handed t phase.Waiting = if slice_index_or handed t false then 0 else 1
+waits_at program exchange handed t (phase.At k) = 0
+waits_at program exchange handed t (phase.In k) = open_count program exchange (awaited_at t (slice_get program.tasks.items t) (Some (phase.In k)))
+waits_at program exchange handed t phase.Ended = 0
+waits_at program exchange handed t phase.Returned = 0
+waits_at program exchange handed t phase.Released = 1
+
+-- what a book counts: the tasks that are not released, and for each task for how many things it waits. A task that was handed out may start
+pub record IsCounted (program : Program) (handed : List Bool) (phases : List Phase) (exchange : Exchange) (held : ℕ) (waits : List ℕ) : Type 0 where
+  pub held_is : held ≡ count_by is_held phases
+  pub long : length waits ≡ length phases
+  pub waits_are : (t : ℕ) (at : Phase) → slice_get phases t ≡ Some at → slice_get waits t ≡ Some (waits_at program exchange handed t at)
+  pub let_in : (t : ℕ) → slice_get handed t ≡ Some true → MayStart program (let_go_at phases) t
+
+-- how many requests each task has posted, as it stands
+pub record IsNumbered (program : Program) (phases : List Phase) (posted : List ℕ) : Type 0 where
+  pub long : length posted ≡ length phases
+  pub posted_are : (t : ℕ) (def : TaskDef) (at : Phase) → slice_get program.tasks.items t ≡ Some def → slice_get phases t ≡ Some at
+      → slice_get posted t ≡ Some (posted_by_phase def at)
+
+-- one less for the task of each of these requests
+abbrev pub one_less_for : List ℕ → List ReqNo → List ℕ
+one_less_for waits [] = waits
+one_less_for waits (req ∷ reqs) = one_less_for (slice_set waits req.task.0 (slice_index_or waits req.task.0 0 - 1)) reqs
+
 -- the operation is a local one
 abbrev pub is_local : Op → Bool
 is_local (op.Compute kind dst left right value step) = true
@@ -98,11 +132,6 @@ pub record IsBook (program : Program) (workers : ℕ) (ready : Readiness) (memor
   pub of_program : ready.program ≡ program
   pub whole : IsWhole ready
   pub engine_of : engine.program ≡ program
-
--- what a handle of the task names is complete; the null request is
-abbrev pub is_complete_handle : Program → Exchange → ℕ → Handle → Bool
-is_complete_handle program exchange t handle.Null = true
-is_complete_handle program exchange t (handle.Nth n) = is_complete program exchange (request t n)
 
 -- the task is before a call
 abbrev pub IsCallAt : At → Type 0

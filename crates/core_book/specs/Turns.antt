@@ -1,5 +1,7 @@
 -- How the plain run keeps the records of the tasks. No public clause cites this module.
-use Rattle.std.specs.Prelude.{◌≡◌, ℕ, ◌+◌, ◌≤◌, Bool, true, false, List, length, slice_get, Some, ⊤}
+use Rattle.std.specs.Prelude.{◌≡◌, ℕ, ◌+◌, ◌≤◌, Bool, true, false, List, [], ◌∷◌, length, slice_get, Option, Some, None, ⊤}
+use Rattle.rt_base.specs.declared.data.TaskNo.{TaskNo}
+use Rattle.rt_base.specs.declared.data.ReqNo.{ReqNo}
 use Rattle.rt_base.specs.declared.data.Phase.{Phase}
 use Rattle.rt_base.specs.declared.data.Phase.TheVariants as phase
 use Rattle.rt_base.specs.declared.data.TaskDef.{TaskDef}
@@ -72,3 +74,8 @@ pub record IsRunning (program : Program) (book : Ledger) (records : List Record)
   pub of_program : book.program ≡ program
   pub alone : book.workers ≡ 1
   pub in_line : AreInLine book records
+
+-- a task that moved, and the task of the notice that its move added
+abbrev pub told_tasks : TaskNo → Option ReqNo → List TaskNo
+told_tasks task None = task ∷ []
+told_tasks task (Some req) = task ∷ req.task ∷ []

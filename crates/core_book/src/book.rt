@@ -10,13 +10,14 @@ ghost use Rattle.task_local.specs.Standing.{def, packed_next};
 ghost use Rattle.core_book.specs.Machine.{move};
 ghost use Rattle.core_book.specs.Ledger.{MakesMove, IsReady, IsAtPosting, IsInPosting, LeavesPending, new_ledger};
 
+use crate::counts::Counts;
+use crate::posted::Posted;
 use crate::posting::{
     blocked_place, call_place, pending, phase_after, place_after, post, posting_at, store_status,
-    tell, tell_status,
+    tell, tell_status, waits_after,
 };
 use crate::room::{all_waiting, cell_count, count_of, most_moves, note, zeros};
-use crate::tasks::{all_released, phase_before, stop, task_of};
-use crate::waits::{may_leave, nth_at};
+use crate::tasks::{is_waiting, phase_before, stop, task_of};
 use match_engine::Engine;
 use region_deps::Deps;
 use rt_base::{Cells, Entry, History, Listed, Phase, Phases, Program, ReqNo, Status, TaskNo};
@@ -46,12 +47,18 @@ pub struct Book {
     notices: Vec<ReqNo>,
     entries: Vec<Entry>,
     statuses: Vec<Status>,
+    // How many tasks are not released.
+    held: usize,
+    // For how many things each task waits before its next move.
+    waits: Counts,
+    // How many requests each task has posted.
+    posted: Posted,
 }
 
 impl Model for Book {
     ghost use Rattle.std.specs.Prelude.{vec_capacity};
     ghost use Rattle.core_book.specs.Ledger.{Ledger};
-    ghost use Rattle.core_book.specs.Kept.{IsBook};
+    ghost use Rattle.core_book.specs.Kept.{IsBook, IsCounted, IsNumbered};
 
     ghost Value = { Ledger };
 
@@ -64,7 +71,9 @@ impl Model for Book {
     } };
 
     ghost invariant = { λ b. IsBook b.program.value b.workers b.deps b.memory.items b.phases.items b.engine b.notices.items
-        b.entries.items b.statuses.items (vec_capacity b.entries) (vec_capacity b.statuses) (vec_capacity b.notices) };
+        b.entries.items b.statuses.items (vec_capacity b.entries) (vec_capacity b.statuses) (vec_capacity b.notices)
+        × IsCounted b.program.value b.deps.handed b.phases.items b.engine.exchange b.held b.waits
+        × IsNumbered b.program.value b.phases.items b.posted };
 }
 
 impl Book {
@@ -85,6 +94,9 @@ impl Book {
             notices: Vec::with_capacity(alloc, moves)?,
             entries: Vec::with_capacity(alloc, moves)?,
             statuses: Vec::with_capacity(alloc, moves)?,
+            held: prog.tasks.len(),
+            waits: Counts::ones(alloc, prog.tasks.len())?,
+            posted: Posted::none(alloc, prog.tasks.len())?,
         })
     }
 
@@ -95,10 +107,13 @@ impl Book {
         ensures none { IfNone result ((t : ℕ) → ¬ IsReady self.old t) }
         ensures unchanged { IfNone result (self.new ≡ self.old) }
     {
-        self.deps.next_startable()
+        let task = self.deps.next_startable()?;
+        self.waits.set(task.0, 0);
+        Some(task)
     }
 
-    /// The task starts, with a copy of its cells. Takes no memory. Its time grows with the task's cells, and with the local operations that come first.
+    /// The task starts, with a copy of its cells. Takes no memory. Its time grows with the task's accesses and cells, with the arrays before the last that
+    /// it names, and with the local operations that come first.
     pub fn start(&mut self, prog: &Program, rec: &mut TaskRec)
         requires well_formed { WellFormed prog.now }
         requires same { prog.now ≡ self.old.program }
@@ -118,7 +133,7 @@ impl Book {
     }
 
     /// The task calls the posting that is next, and goes into it where it blocks; answers how many of its requests are incomplete then.
-    /// Takes no memory. Its time grows with the operations before the call, and with what waits in one mailbox.
+    /// Takes no memory. Its time grows with what waits in one mailbox, with the handles of the wait in which the other task is, and with the local operations that come next.
     pub fn call(&mut self, prog: &Program, rec: &mut TaskRec, cells: Cells) -> u32
         requires well_formed { WellFormed prog.now }
         requires same { prog.now ≡ self.old.program }
@@ -135,13 +150,23 @@ impl Book {
         let posting = posting_at(def, k);
         let req = ReqNo {
             task,
-            nth: nth_at(def, k),
+            nth: self.posted.next(task),
         };
         let partner = post(&mut self.engine, prog, req, posting.how, cells);
-        tell(&mut self.notices, &self.engine, prog, phases, partner);
+        tell(
+            &mut self.notices,
+            &mut self.waits,
+            &self.engine,
+            prog,
+            phases,
+            &self.posted,
+            partner,
+        );
+        self.posted.add(task);
         phases[task.0 as usize] = phase_after(def, k, posting.how);
         rec.go(prog, place_after(def, k, posting.how));
         let pending = pending(&self.engine, req);
+        self.waits.set(task.0, waits_after(posting.how, pending));
         note(
             &mut self.entries,
             Entry::Call {
@@ -154,7 +179,7 @@ impl Book {
     }
 
     /// The task leaves the posting in which it waits: received cells and the status go into its copy. Takes no memory.
-    /// Its time grows with the operations before the posting, with the cells received, and with the local operations that come next.
+    /// Its time grows with the cells received, and with the local operations that come next.
     pub fn leave(&mut self, prog: &Program, rec: &mut TaskRec)
         requires well_formed { WellFormed prog.now }
         requires same { prog.now ≡ self.old.program }
@@ -170,7 +195,7 @@ impl Book {
         let posting = posting_at(def, k);
         let req = ReqNo {
             task,
-            nth: nth_at(def, k),
+            nth: self.posted.last(task),
         };
         rec.store(prog, posting.span, self.engine.cells(req));
         let from = count_of(&self.statuses);
@@ -205,7 +230,8 @@ impl Book {
     }
 
     /// The task lets go of its accesses: its written cells are put back, and the tasks that waited for it may start.
-    /// Takes no memory. Its time grows with the task's cells.
+    /// Takes no memory. Its time grows with the task's accesses, with the cells that it writes and the arrays before the last of them, and with the links
+    /// of its accesses, and of its group where it is the last of that.
     pub fn release(&mut self, prog: &Program, rec: &mut TaskRec)
         requires well_formed { WellFormed prog.now }
         requires same { prog.now ≡ self.old.program }
@@ -219,6 +245,8 @@ impl Book {
         rec.save(prog, memory);
         rec.go(prog, Phase::Released);
         self.phases[task.0 as usize] = Phase::Released;
+        self.held -= 1;
+        self.waits.set(task.0, 1);
         self.deps.release(task);
         let from = count_of(&self.statuses);
         note(
@@ -231,43 +259,43 @@ impl Book {
         );
     }
 
-    /// Whether the task may make its next move. Takes no memory. Looks at all earlier tasks where it waits, and else at the requests that it awaits.
+    /// Whether the program has the task and it may make its next move. Takes no memory, and constant time.
     pub fn can_move(&self, prog: &Program, task: TaskNo) -> bool
         requires well_formed { WellFormed prog.now }
         requires same { prog.now ≡ self.now.program }
-        requires exists { task.0 < length prog.now.tasks.items }
         ensures { IsTrue result ↔ MayMove prog.now (final prog.now self.now.history) task.0 }
     {
-        let phases = &self.phases;
-        match phases[task.0 as usize] {
-            Phase::Waiting => self.deps.may_start(task),
-            Phase::At(_) => true,
-            Phase::In(k) => may_leave(&self.engine, task, task_of(prog, task), k),
-            Phase::Ended => true,
-            Phase::Returned => true,
-            Phase::Released => false,
+        if task.0 as usize >= self.phases.len() {
+            return false;
+        }
+        if is_waiting(self.phases[task.0 as usize]) {
+            self.deps.may_start(task)
+        } else {
+            self.waits.at(task.0) == 0
         }
     }
 
-    /// Whether no task may move. Takes no memory. Looks at each task.
+    /// Whether no task may move. Takes no memory, and constant time.
     pub fn quiet(&self, prog: &Program) -> bool
         requires well_formed { WellFormed prog.now }
         requires same { prog.now ≡ self.now.program }
         ensures { IsTrue result ↔ IsQuiet prog.now (final prog.now self.now.history) }
     {
-        for t in 0..prog.tasks.len() {
-            if self.can_move(prog, TaskNo(t as u32)) {
-                return false;
-            }
-        }
-        true
+        self.waits.none_zero() && self.deps.none_startable()
     }
 
-    /// Whether all tasks are released. Takes no memory. Looks at each task.
+    /// Whether all tasks are released. Takes no memory, and constant time.
     pub fn finished(&self) -> bool
         ensures { IsTrue result ↔ IsFinished (final self.now.program self.now.history) }
     {
-        all_released(&self.phases)
+        self.held == 0
+    }
+
+    // The notices of completions in the state after the history. No one takes them.
+    pub(crate) fn notices(&self) -> &[ReqNo]
+        ensures { result.now ≡ (final self.now.program self.now.history).notices }
+    {
+        &self.notices
     }
 
     /// The history, with the cells and the phases of the state after it. Takes no memory.
@@ -288,6 +316,9 @@ impl Book {
             notices: _,
             entries,
             statuses,
+            held: _,
+            waits: _,
+            posted: _,
         } = self;
         BookEnd {
             history: History {

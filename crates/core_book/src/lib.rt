@@ -2,8 +2,10 @@
 #![tactic(auto)]
 
 mod book;
+mod counts;
 pub mod laws;
 mod plain;
+mod posted;
 mod posting;
 mod room;
 mod tasks;

@@ -1,21 +1,21 @@
 //! The plain run of a program: one thread, no workers, one move after another.
 
-ghost use Rattle.std.specs.Prelude.{◌≡◌, ◌≢◌, ◌<◌, length, slice_get, IfOk, IfSome, IfNone, ℕ};
+ghost use Rattle.std.specs.Prelude.{◌≡◌, ◌≢◌, ◌<◌, ◌++◌, length, slice_get, IfOk, OnOk, IfSome, IfNone, ℕ};
 ghost use Rattle.rt_base.specs.declared.data.Phase.TheVariants as phase;
 ghost use Rattle.rt_base.specs.WellFormed.{WellFormed};
 ghost use Rattle.rt_base.specs.MayMove.{MayMove};
 ghost use Rattle.core_book.specs.Legal.{final, phases_of, IsLegal, IsQuiet};
 ghost use Rattle.core_book.specs.Ledger.{MakesMove, IsReady};
 ghost use Rattle.core_book.specs.Plain.{IsPlain};
-ghost use Rattle.core_book.specs.Turns.{IsInLine, AreInLine, AreFresh, EndsTurn};
+ghost use Rattle.core_book.specs.Turns.{IsInLine, AreInLine, AreFresh, EndsTurn, told_tasks};
 
 use crate::book::{Book, BookEnd};
-use rt_base::{Program, TaskNo};
+use rt_base::{Program, ReqNo, TaskNo};
 use std::alloc::{AllocError, Global};
 use task_local::{At, TaskRec};
 
-/// Runs the program on one thread over a book, until no task may move. Takes memory for all records first, and then for the cells of each send.
-/// For each move it looks at all tasks, and while some wait at the pairs of them and of their accesses.
+/// Runs the program on one thread over a book, until no task may move. Takes memory for all records first, and then for the cells of each send
+/// and for a list of tasks to look at again, with at most one place for each task and one for each completion that was noticed.
 pub fn run_plainly(alloc: Global, prog: &Program) -> Result<BookEnd, AllocError>
     requires well_formed { WellFormed prog.now }
     requires plain { IsPlain prog.now }
@@ -26,7 +26,8 @@ pub fn run_plainly(alloc: Global, prog: &Program) -> Result<BookEnd, AllocError>
 {
     let mut book = Book::build(alloc, prog, 1)?;
     let mut recs = fresh_records(alloc, prog)?;
-    while turn(alloc, prog, &mut book, &mut recs)? {}
+    let mut again = Vec::new(alloc);
+    while turn(alloc, prog, &mut book, &mut recs, &mut again)? {}
     Ok(book.into_end())
 }
 
@@ -43,12 +44,13 @@ fn fresh_records(alloc: Global, prog: &Program) -> Result<Vec<TaskRec>, AllocErr
     Ok(recs)
 }
 
-// Makes one move, if a task may move. Answers whether one did.
+// Makes one move, if a task may move. Answers whether one did. Tasks that are ready start first.
 fn turn(
     alloc: Global,
     prog: &Program,
     book: &mut Book,
     recs: &mut [TaskRec],
+    again: &mut Vec<TaskNo>,
 ) -> Result<bool, AllocError>
     requires well_formed { WellFormed prog.now }
     requires plain { IsPlain prog.now }
@@ -59,9 +61,10 @@ fn turn(
     match book.ready() {
         Some(task) => {
             book.start(prog, &mut recs[task.0 as usize]);
+            again.push(task)?;
             Ok(true)
         }
-        None => go_on(alloc, prog, book, recs),
+        None => go_on(alloc, prog, book, recs, again),
     }
 }
 
@@ -71,6 +74,7 @@ fn go_on(
     prog: &Program,
     book: &mut Book,
     recs: &mut [TaskRec],
+    again: &mut Vec<TaskNo>,
 ) -> Result<bool, AllocError>
     requires well_formed { WellFormed prog.now }
     requires plain { IsPlain prog.now }
@@ -79,17 +83,38 @@ fn go_on(
     requires none_ready { (t : ℕ) → ¬ IsReady book.old t }
     ensures { IfOk result (λ moved. EndsTurn book.old book.new recs.new moved) }
 {
-    match next_task(prog, book) {
+    match next_task(prog, book, again) {
         Some(task) => {
+            let told = book.notices().len();
             move_one(alloc, prog, book, &mut recs[task.0 as usize])?;
+            look_again(again, task, book.notices(), told)?;
             Ok(true)
         }
         None => Ok(false),
     }
 }
 
-// The first task that may move.
-fn next_task(prog: &Program, book: &Book) -> Option<TaskNo>
+// A task that may move: the last of those to look at again, and where none of them may, any one.
+fn next_task(prog: &Program, book: &Book, again: &mut Vec<TaskNo>) -> Option<TaskNo>
+    requires well_formed { WellFormed prog.now }
+    requires same { prog.now ≡ book.now.program }
+    ensures some { IfSome result (λ task. MayMove prog.now (final prog.now book.now.history) task.0) }
+    ensures none { IfNone result (IsQuiet prog.now (final prog.now book.now.history)) }
+{
+    while let Some(task) = again.pop() {
+        if book.can_move(prog, task) {
+            return Some(task);
+        }
+    }
+    if book.quiet(prog) {
+        None
+    } else {
+        first_able(prog, book)
+    }
+}
+
+// The first task that may move. Looks at each task: a run comes here only where a task may move that no one looks at again.
+fn first_able(prog: &Program, book: &Book) -> Option<TaskNo>
     requires well_formed { WellFormed prog.now }
     requires same { prog.now ≡ book.now.program }
     ensures some { IfSome result (λ task. MayMove prog.now (final prog.now book.now.history) task.0) }
@@ -102,6 +127,22 @@ fn next_task(prog: &Program, book: &Book) -> Option<TaskNo>
         }
     }
     None
+}
+
+// After a move of a task, it is looked at again, and so is the task of the notice that the move added to those told before.
+fn look_again(
+    again: &mut Vec<TaskNo>,
+    task: TaskNo,
+    notices: &[ReqNo],
+    told: usize,
+) -> Result<(), AllocError>
+    ensures { OnOk result (again.new.items ≡ again.old.items ++ told_tasks task (slice_get notices.now told)) }
+{
+    again.push(task)?;
+    if told < notices.len() {
+        again.push(notices[told].task)?;
+    }
+    Ok(())
 }
 
 // Makes the next move of a task that was started, after its local operations.

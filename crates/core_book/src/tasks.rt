@@ -1,6 +1,6 @@
 //! Where a program's tasks are, and where a task stands after its local operations.
 
-ghost use Rattle.std.specs.Prelude.{◌≡◌, ◌≤◌, ◌<◌, ◌^◌, ◌↔◌, length, slice_get, Some, All, IsTrue};
+ghost use Rattle.std.specs.Prelude.{◌≡◌, ◌≤◌, ◌<◌, ◌^◌, ◌↔◌, length, slice_get, Some, IsTrue};
 ghost use Rattle.rt_base.specs.declared.data.Phase.TheVariants as phase;
 ghost use Rattle.task_local.specs.Local.{stop};
 ghost use Rattle.task_local.specs.Standing.{phase_before};
@@ -55,23 +55,16 @@ pub(crate) fn stop(def: &TaskDef, k: u32) -> Phase
     Phase::Ended
 }
 
-// Whether all of these are released. Looks at each.
-pub(crate) fn all_released(phases: &[Phase]) -> bool
-    ensures { IsTrue result ↔ All (λ at. at ≡ phase.Released) phases.now }
-{
-    phases.iter().all(|at| is_released(*at))
-}
-
-// Whether the accesses of a task in this phase are let go.
-fn is_released(at: Phase) -> bool
-    ensures { IsTrue result ↔ (at ≡ phase.Released) }
+// Whether a task in this phase was not started.
+pub(crate) fn is_waiting(at: Phase) -> bool
+    ensures { IsTrue result ↔ (at ≡ phase.Waiting) }
 {
     match at {
-        Phase::Waiting => false,
+        Phase::Waiting => true,
         Phase::At(_) => false,
         Phase::In(_) => false,
         Phase::Ended => false,
         Phase::Returned => false,
-        Phase::Released => true,
+        Phase::Released => false,
     }
 }

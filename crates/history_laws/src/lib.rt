@@ -1,7 +1,8 @@
-//! What follows of messages for every legal history: each law is the contract of a function that does nothing.
+//! What follows of messages and of the order of tasks for every legal history: each law is the contract of a function that does nothing.
 #![tactic(auto)]
 
 ghost use Rattle.history_laws.specs.Postings.{HistoriesPostInOrder, NothingMatchesAtTheEnd};
+ghost use Rattle.history_laws.specs.Starts.{TasksStartInOrder};
 
 use match_engine::nothing_that_matches_is_left as engine_law;
 
@@ -17,3 +18,9 @@ pub fn nothing_that_matches_is_left()
 {
     engine_law();
 }
+
+/// Where a task starts in a legal history, each task that precedes it has its return and then its release before it, and at that release every
+/// request bound to it was complete (OmpSs-2, task dependences and taskwait; TAMPI, `TAMPI_Iwait`).
+pub fn tasks_start_in_order()
+    ensures { TasksStartInOrder }
+{}

@@ -8,8 +8,10 @@ use Rattle.std.proofs.lemmas.Bool.{cases_lt, ltb-true, ltb-false}
 use Rattle.region_deps.specs.declared.graph.Link.{Link}
 use Rattle.region_deps.specs.declared.segments.Region.{Region}
 use Rattle.region_deps.specs.Links.{link}
-use Rattle.region_deps.specs.Clashes.{nothing, region_at, task_at, Meets, Clash, IsFull, IsSound}
+use Rattle.region_deps.specs.Clashes.{nothing, region_at, task_at, Lies, Meets, Clash, IsSound}
+use Rattle.region_deps.specs.Chains.{WaitsAt, IsLinkedAt, IsLinkedAll}
 use Rattle.region_deps.specs.Lines.{IsBounds, position_in, laid}
+use Rattle.region_deps.proofs.ChainLemmas.{lies_within}
 
 -- numbers each below the next rise
 rises_upto : (xs : List ℕ) → IsStrictlyIncreasing xs → (n i : ℕ) → i + n < length xs → get_or xs i 0 ≤ get_or xs (i + n) 0
@@ -61,15 +63,6 @@ position_lt bounds rises x y here lt =
 position_below : (bounds : List ℕ) (x y : ℕ) → position_in bounds x < position_in bounds y → x < y
 position_below bounds x y lt = elim (cases_lt x y) [ inl below ↦ below | inr above ↦ absurd (omega (arith, lt, position_le bounds x y above)) ]
 
-meets_laid : (bounds : List ℕ) → ((i j : ℕ) → i ≤ j → j < length bounds → get_or bounds i 0 ≤ get_or bounds j 0) → (one other : Region) →
-    Contains bounds one.from → Contains bounds other.from → Meets one other → Meets (laid bounds one) (laid bounds other)
-meets_laid bounds rises one other here there m = record {
-  one_first = position_lt bounds rises one.from one.to here m.one_first;
-  other_first = position_lt bounds rises other.from other.to there m.other_first;
-  one_reaches = position_lt bounds rises other.from one.to there m.one_reaches;
-  other_reaches = position_lt bounds rises one.from other.to here m.other_reaches;
-}
-
 meets_on_line : (bounds : List ℕ) (one other : Region) → Meets (laid bounds one) (laid bounds other) → Meets one other
 meets_on_line bounds one other m = record {
   one_first = position_below bounds one.from one.to m.one_first;
@@ -81,19 +74,17 @@ meets_on_line bounds one other m = record {
 at_laid : (bounds : List ℕ) (regions : List Region) (k : ℕ) → k < length regions → region_at (map (laid bounds) regions) k ≡ laid bounds (region_at regions k)
 at_laid bounds regions k lt = get_or-map (laid bounds) regions k nothing nothing lt
 
--- clashes on the line are clashes in segments
-clash_laid : (regions : List Region) (bounds : List ℕ) → IsBounds regions bounds → (k j : ℕ) → Clash regions k j → Clash (map (laid bounds) regions) k j
-clash_laid regions bounds b k j clash =
-    let k_in : k < length regions = omega (arith, clash.earlier, clash.within) in
-    let k_is = at_laid bounds regions k k_in in
-    let j_is = at_laid bounds regions j clash.within in
-    record {
-      earlier = clash.earlier;
-      within = omega (arith, clash.within, length-map regions (laid bounds));
-      meets = subst (λ (r : Region). Meets r (region_at (map (laid bounds) regions) j)) (sym k_is) (subst (λ (r : Region). Meets (laid bounds (region_at regions k)) r) (sym j_is)
-          (meets_laid bounds b.rises (region_at regions k) (region_at regions j) (b.begins k nothing k_in) (b.begins j nothing clash.within) clash.meets));
-      written = elim clash.written [ inl writes ↦ inl (ap (λ (r : Region). r.writes) k_is ∙ writes) | inr writes ↦ inr (ap (λ (r : Region). r.writes) j_is ∙ writes) ];
-    }
+-- a region covers a bound exactly where it covers the segment that begins there
+lies_laid : (bounds : List ℕ) → ((i j : ℕ) → i ≤ j → j < length bounds → get_or bounds i 0 ≤ get_or bounds j 0) → (region : Region) (at : ℕ) → Contains bounds at →
+    Lies region at → Lies (laid bounds region) (position_in bounds at)
+lies_laid bounds rises region at here lies = (position_le bounds at region.from lies.0, position_lt bounds rises at region.to here lies.1)
+
+lies_on_line : (bounds : List ℕ) → ((i j : ℕ) → i ≤ j → j < length bounds → get_or bounds i 0 ≤ get_or bounds j 0) → (region : Region) (at : ℕ) → Contains bounds at →
+    Lies (laid bounds region) (position_in bounds at) → Lies region at
+lies_on_line bounds rises region at here lies = elim (cases_lt at region.from) [
+  | inl below ↦ absurd (omega (arith, lies.0, position_lt bounds rises at region.from here below))
+  | inr behind ↦ (behind, position_below bounds at region.to lies.1)
+]
 
 clash_on_line : (regions : List Region) (bounds : List ℕ) (k j : ℕ) → Clash (map (laid bounds) regions) k j → Clash regions k j
 clash_on_line regions bounds k j clash =
@@ -112,16 +103,37 @@ clash_on_line regions bounds k j clash =
 task_laid : (bounds : List ℕ) (regions : List Region) (k : ℕ) → k < length regions → task_at (map (laid bounds) regions) k ≡ task_at regions k
 task_laid bounds regions k lt = ap (λ (r : Region). r.task) (at_laid bounds regions k lt)
 
--- links that suffice in segments suffice on the line, with others beside them
-pub full_on_line : (regions : List Region) (bounds : List ℕ) (links links' : List Link) → IsBounds regions bounds → ((l : Link) → Contains links l → Contains links' l) →
-    IsFull (map (laid bounds) regions) links → IsFull regions links'
-full_on_line regions bounds links links' b more full gone closed k j lt clash let_in =
-    let long = length-map regions (laid bounds) in
-    full gone
-    (λ s i within here gone_i. closed s i (omega (arith, within, long)) (more (link s (task_at regions i))
-    (subst (λ (t : ℕ). Contains links (link s t)) (task_laid bounds regions i (omega (arith, within, long))) here)) gone_i)
-    k j (omega (arith, lt, long)) (clash_laid regions bounds b k j clash)
-    (λ s here. let_in s (more (link s (task_at regions j)) (subst (λ (t : ℕ). Contains links (link s t)) (task_laid bounds regions j lt) here)))
+-- whom a region waits for where another begins, it waits for in the segment that begins there
+waits_laid : (regions : List Region) (bounds : List ℕ) → IsBounds regions bounds → (at k j : ℕ) → Contains bounds at → WaitsAt regions at k j →
+    WaitsAt (map (laid bounds) regions) (position_in bounds at) k j
+waits_laid regions bounds b at k j here waits =
+    let j_in : j < length regions = lies_within regions at j waits.clash.other in
+    let k_is = at_laid bounds regions k (omega (arith, waits.clash.earlier, j_in)) in
+    let j_is = at_laid bounds regions j j_in in
+    let one = subst (λ (r : Region). Lies r (position_in bounds at)) (sym k_is) (lies_laid bounds b.rises (region_at regions k) at here waits.clash.one) in
+    record {
+      clash = record {
+        earlier = waits.clash.earlier;
+        one = one;
+        other = subst (λ (r : Region). Lies r (position_in bounds at)) (sym j_is) (lies_laid bounds b.rises (region_at regions j) at here waits.clash.other);
+        written = elim waits.clash.written [ inl writes ↦ inl (ap (λ (r : Region). r.writes) k_is ∙ writes) | inr writes ↦ inr (ap (λ (r : Region). r.writes) j_is ∙ writes) ];
+      };
+      recent = record {
+        earlier = waits.clash.earlier;
+        covers = one;
+        unwritten = λ m behind before lies.
+            let m_is = at_laid bounds regions m (omega (arith, before, j_in)) in
+            ap (λ (r : Region). r.writes) m_is ∙ waits.recent.unwritten m behind before
+            (lies_on_line bounds b.rises (region_at regions m) at here (subst (λ (r : Region). Lies r (position_in bounds at)) m_is lies));
+      };
+    }
+
+-- the links that all segments ask for are those that the places ask for where regions begin
+linked_on_line : (regions : List Region) (bounds : List ℕ) (links : List Link) → IsBounds regions bounds → ((at : ℕ) → IsLinkedAt (map (laid bounds) regions) links at) → IsLinkedAll regions links
+linked_on_line regions bounds links b linked at begins k j waits =
+    let here : Contains bounds at = subst (Contains bounds) begins.begins (b.begins begins.region nothing begins.within) in
+    subst (λ (t : ℕ). Contains links (link k t)) (task_laid bounds regions j (lies_within regions at j waits.clash.other))
+    (linked (position_in bounds at) k j (waits_laid regions bounds b at k j here waits))
 
 pub sound_on_line : (regions : List Region) (bounds : List ℕ) (links : List Link) → IsSound (map (laid bounds) regions) links → IsSound regions links
 sound_on_line regions bounds links sound k task here =
@@ -135,11 +147,11 @@ begins_at regions places e k d lt = subst (λ (l : List ℕ). Contains l (get_or
     (k, omega (arith, lt, length-map regions (λ (r : Region). r.from)), get_or-map (λ (r : Region). r.from) regions k d (get_or regions k d).from lt)
 
 -- the same of the lists as the code has them
-pub full_laid : (regions : List Region) (bounds bounds' : List ℕ) (all all' : List Region) (links : List Link) → IsBounds regions bounds → bounds' ≡ bounds → all ≡ map (laid bounds') regions → all' ≡ all →
-    IsFull all' links → IsFull regions links
-full_laid regions bounds bounds' all all' links b same are copied full =
+pub linked_laid : (regions : List Region) (bounds bounds' : List ℕ) (all all' : List Region) (links : List Link) → IsBounds regions bounds → bounds' ≡ bounds → all ≡ map (laid bounds') regions → all' ≡ all →
+    ((at : ℕ) → IsLinkedAt all' links at) → IsLinkedAll regions links
+linked_laid regions bounds bounds' all all' links b same are copied linked =
     let laid_are : all' ≡ map (laid bounds) regions = copied ∙ are ∙ ap (λ (l : List ℕ). map (laid l) regions) same in
-    full_on_line regions bounds links links b (λ l here. here) (subst (λ (r : List Region). IsFull r links) laid_are full)
+    linked_on_line regions bounds links b (subst (λ (r : List Region). (at : ℕ) → IsLinkedAt r links at) laid_are linked)
 
 pub sound_laid : (regions : List Region) (bounds bounds' : List ℕ) (all all' : List Region) (links : List Link) → bounds' ≡ bounds → all ≡ map (laid bounds') regions → all' ≡ all →
     IsSound all' links → IsSound regions links

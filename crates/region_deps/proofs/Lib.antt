@@ -1,6 +1,7 @@
 pub mod Counting
 pub mod QueueLemmas
 pub mod LayoutLemmas
+pub mod ChainLemmas
 pub mod LinkLemmas
 pub mod BoundLemmas
 pub mod RegionLemmas

@@ -1,4 +1,4 @@
--- The last writer and the readers since suffice: over each segment, and from there over all regions.
+-- Segments know the last writer and the readers since, and the links that each asks for are made.
 use Rattle.std.proofs.Common.{◌≡◌, ℕ, ◌+◌, ◌<◌, ◌≤◌, ◌⊎◌, Bool, true, false, List, [], ◌∷◌, ◌++◌, length, get_or, set, map, replicate, refl, ap, sym, ◌∙◌, subst, inl, inr, arith}
 use Rattle.std.specs.List.{Contains}
 use Rattle.std.specs.Option.{option_to_list}
@@ -8,9 +8,11 @@ use Rattle.std.proofs.lemmas.Bool.{cases_eq, cases_lt, cases_Bool, true≢false}
 use Rattle.std.proofs.lemmas.Grind.{get_or-set_at}
 use Rattle.region_deps.specs.declared.graph.Link.{Link}
 use Rattle.region_deps.specs.declared.segments.Region.{Region}
-use Rattle.region_deps.specs.Links.{link, IsLetIn}
-use Rattle.region_deps.specs.Clashes.{region_at, task_at, Lies, Meets, Clash, IsClosed, IsFullUpto, IsSound}
+use Rattle.region_deps.specs.Links.{link}
+use Rattle.region_deps.specs.Clashes.{region_at, task_at, Lies, Meets, IsSound}
+use Rattle.region_deps.specs.Chains.{IsRecent, WaitsAt}
 use Rattle.region_deps.specs.Segments.{Since, untouched, sources, touched, since_at, IsTouched}
+use Rattle.region_deps.proofs.ChainLemmas.{lies_cases, not_both}
 
 -- an element of a list, and what a function makes of it
 Contains-map : (f : ℕ → Link) (xs : List ℕ) (x : ℕ) → Contains xs x → Contains (map f xs) (f x)
@@ -26,39 +28,27 @@ Contains-from_map f xs l here =
     let within : here.0 < length xs = omega (arith, here.1, length-map xs f) in
     record { from = get_or xs here.0 0; there = Contains-get_or xs here.0 0 within; same = sym (get_or-map f xs here.0 0 l within) ∙ here.2 }
 
--- every one of these is gone
-abbrev AllGone : (ℕ → Bool) → List ℕ → Type 0
-AllGone gone xs = (k : ℕ) → Contains xs k → gone k ≡ true
+-- the region is among those that a write would wait for, and if it writes then among those that a read would
+pub record Knows (since : Since) (k : ℕ) (w : Bool) : Type 0 where
+  pub write : Contains (sources since true) k
+  pub read : w ≡ true → Contains (sources since false) k
 
--- once all are gone that an access would wait for, so is each earlier access that it conflicts with
-pub record Guards (gone : ℕ → Bool) (since : Since) (Seen : ℕ → Bool → Type 0) : Type 0 where
-  pub write : (k : ℕ) (w : Bool) → Seen k w → AllGone gone (sources since true) → gone k ≡ true
-  pub read : (k : ℕ) → Seen k true → AllGone gone (sources since false) → gone k ≡ true
-
--- one more access, which was let in before it went
-guards_more : (gone : ℕ → Bool) (since : Since) (Seen Seen' : ℕ → Bool → Type 0) (a : ℕ) (w : Bool) → Guards gone since Seen →
-    (gone a ≡ true → AllGone gone (sources since w)) → ((k : ℕ) (v : Bool) → Seen' k v → Seen k v ⊎ ((k ≡ a) × (v ≡ w))) → Guards gone (touched since a w) Seen'
-guards_more gone since Seen Seen' a true g closed more = record {
-  write = λ k v here all. elim (more k v here) [ inl before ↦ g.write k v before (closed (all a (Contains-push [] a))) | inr now ↦ ap gone now.0 ∙ all a (Contains-push [] a) ];
-  read = λ k here all. elim (more k true here) [ inl before ↦ g.write k true before (closed (all a (Contains-push [] a))) | inr now ↦ ap gone now.0 ∙ all a (Contains-push [] a) ];
+-- a segment knows the region that touched it, and one that it knew, where that only reads
+knows_itself : (since : Since) (k : ℕ) (w : Bool) → Knows (touched since k w) k w
+knows_itself since k true = record { write = Contains-push [] k; read = λ _. Contains-push [] k }
+knows_itself since k false = record {
+  write = Contains-append_right (option_to_list since.writer) (since.readers ++ k ∷ []) k (Contains-push since.readers k);
+  read = λ f. absurd (true≢false (sym f));
 }
-guards_more gone since Seen Seen' a false g closed more = record {
-  write = λ k v here all. elim (more k v here) [
-    | inl before ↦ g.write k v before (λ x there. all x (elim (Contains-append_cases (option_to_list since.writer) since.readers x there) [
-      | inl writes ↦ Contains-append_left (option_to_list since.writer) (since.readers ++ a ∷ []) x writes
-      | inr reads ↦ Contains-append_right (option_to_list since.writer) (since.readers ++ a ∷ []) x (Contains-append_left since.readers (a ∷ []) x reads)
-    ]))
-    | inr now ↦ ap gone now.0 ∙ all a (Contains-append_right (option_to_list since.writer) (since.readers ++ a ∷ []) a (Contains-push since.readers a))
+
+knows_before : (since : Since) (a k : ℕ) (w : Bool) → Knows since k w → Knows (touched since a false) k w
+knows_before since a k w knows = record {
+  write = elim (Contains-append_cases (option_to_list since.writer) since.readers k knows.write) [
+    | inl writes ↦ Contains-append_left (option_to_list since.writer) (since.readers ++ a ∷ []) k writes
+    | inr reads ↦ Contains-append_right (option_to_list since.writer) (since.readers ++ a ∷ []) k (Contains-append_left since.readers (a ∷ []) k reads)
   ];
-  read = λ k here all. elim (more k true here) [ inl before ↦ g.read k before all | inr now ↦ absurd (true≢false now.1) ];
+  read = knows.read;
 }
-
--- the guards of a segment that no region touched
-guards_none : (gone : ℕ → Bool) (since : Since) (Seen : ℕ → Bool → Type 0) → ((k : ℕ) (w : Bool) → ¬ Seen k w) → Guards gone since Seen
-guards_none gone since Seen none = record { write = λ k w here all. absurd (none k w here); read = λ k here all. absurd (none k true here) }
-
-guards_same : (gone : ℕ → Bool) (since : Since) (Seen Seen' : ℕ → Bool → Type 0) → Guards gone since Seen → ((k : ℕ) (w : Bool) → Seen' k w → Seen k w) → Guards gone since Seen'
-guards_same gone since Seen Seen' g less = record { write = λ k w here all. g.write k w (less k w here) all; read = λ k here all. g.read k (less k true here) all }
 
 -- the region is among those so far and covers the segment
 pub record Seen (regions : List Region) (done at k : ℕ) (w : Bool) : Type 0 where
@@ -68,8 +58,8 @@ pub record Seen (regions : List Region) (done at k : ℕ) (w : Bool) : Type 0 wh
 
 -- of the regions so far, every segment knows those to wait for, and the links are made
 pub record IsLinked (regions : List Region) (done : ℕ) (segments : List Since) (links : List Link) : Type 0 where
-  pub guards : (gone : ℕ → Bool) → IsClosed regions links gone → (at : ℕ) → at < length segments → Guards gone (since_at segments at) (Seen regions done at)
-  pub full : IsFullUpto regions links done
+  pub recent : (at k : ℕ) → IsRecent regions at k done → Knows (since_at segments at) k (region_at regions k).writes
+  pub made : (at k j : ℕ) → j < done → WaitsAt regions at k j → Contains links (link k (task_at regions j))
   pub sound : IsSound regions links
   pub writer : (at k : ℕ) → Contains (sources (since_at segments at) false) k → Seen regions done at k true
   pub named : (at k : ℕ) → Contains (sources (since_at segments at) true) k → Seen regions done at k (region_at regions k).writes
@@ -87,8 +77,8 @@ pub linked_none : (regions : List Region) (n : ℕ) (segments : List Since) (lin
 linked_none regions n segments links fresh none =
     let empty : (at : ℕ) → since_at segments at ≡ untouched = λ at. ap (λ (s : List Since). since_at s at) fresh ∙ since-replicate n at in
     record {
-      guards = λ gone closed at within. guards_none gone (since_at segments at) (Seen regions 0 at) (λ k w seen. absurd (omega (arith, seen.before)));
-      full = λ gone closed k j lt. absurd (omega (arith, lt));
+      recent = λ at k none. absurd (omega (arith, none.earlier));
+      made = λ at k j lt. absurd (omega (arith, lt));
       sound = λ k task here. absurd (omega (arith, here.1, ap length none));
       writer = λ at k here. absurd (none_contained k (subst (λ s. Contains (sources s false) k) (empty at) here));
       named = λ at k here. absurd (none_contained k (subst (λ s. Contains (sources s true) k) (empty at) here));
@@ -169,18 +159,7 @@ touched_named s a false k here = elim (Contains-append_cases (option_to_list s.w
   ]
 ]
 
--- two regions that meet share a place, and those that share one meet
-record IsShared (one other : Region) : Type 0 where
-  at : ℕ
-  in_one : Lies one at
-  in_other : Lies other at
-
-shared : (one other : Region) → Meets one other → IsShared one other
-shared one other m = elim (cases_lt one.from other.from) [
-  | inl below ↦ record { at = other.from; in_one = (omega (arith, below), m.one_reaches); in_other = (omega arith, m.other_first) }
-  | inr above ↦ record { at = one.from; in_one = (omega arith, m.one_first); in_other = (above, m.other_reaches) }
-]
-
+-- regions that share a place meet
 meets_at : (one other : Region) (at : ℕ) → Lies one at → Lies other at → Meets one other
 meets_at one other at here there = record {
   one_first = omega (arith, here.0, here.1);
@@ -189,66 +168,58 @@ meets_at one other at here there = record {
   other_reaches = omega (arith, here.0, there.1);
 }
 
-lies_cases : (region : Region) (at : ℕ) → Lies region at ⊎ ((at < region.from) ⊎ (region.to ≤ at))
-lies_cases region at = elim (cases_lt at region.from) [
-  | inl below ↦ inr (inl below)
-  | inr behind ↦ elim (cases_lt at region.to) [ inl before ↦ inl (behind, before) | inr past ↦ inr (inr past) ]
-]
-
-not_both : (region : Region) (at : ℕ) → (at < region.from) ⊎ (region.to ≤ at) → ¬ Lies region at
-not_both region at away lies = elim away [ inl below ↦ absurd (omega (arith, below, lies.0)) | inr past ↦ absurd (omega (arith, past, lies.1)) ]
-
--- the next region was seen, or it was seen before
-seen_more : (regions : List Region) (n at k : ℕ) (v : Bool) → Seen regions (n + 1) at k v → Seen regions n at k v ⊎ ((k ≡ n) × (v ≡ (region_at regions n).writes))
-seen_more regions n at k v seen = elim (cases_eq k n) [
-  | inl same ↦ inr (same, sym seen.mode ∙ ap (λ (i : ℕ). (region_at regions i).writes) same)
-  | inr other ↦ inl (record { before = omega (arith, seen.before, other); covers = seen.covers; mode = seen.mode })
-]
-
 seen_again : (regions : List Region) (n at k : ℕ) (v : Bool) → Seen regions n at k v → Seen regions (n + 1) at k v
 seen_again regions n at k v seen = record { before = omega (arith, seen.before); covers = seen.covers; mode = seen.mode }
 
+-- a region that no other wrote over, before the last one
+recent_before : (regions : List Region) (at k n : ℕ) → IsRecent regions at k (n + 1) → ¬ (k ≡ n) → IsRecent regions at k n
+recent_before regions at k n now other = record {
+  earlier = omega (arith, now.earlier, other);
+  covers = now.covers;
+  unwritten = λ m behind before. now.unwritten m behind (omega (arith, before));
+}
+
+-- the segment that the last region touched
+recent_touched : (regions : List Region) (at k n : ℕ) (since : Since) → (IsRecent regions at k n → Knows since k (region_at regions k).writes) → Lies (region_at regions n) at →
+    IsRecent regions at k (n + 1) → Knows (touched since n (region_at regions n).writes) k (region_at regions k).writes
+recent_touched regions at k n since h lies now = elim (cases_eq k n) [
+  | inl same ↦ subst (λ (i : ℕ). Knows (touched since n (region_at regions n).writes) i (region_at regions i).writes) (sym same) (knows_itself since n (region_at regions n).writes)
+  | inr other ↦
+      let before = recent_before regions at k n now other in
+      let reads : (region_at regions n).writes ≡ false = now.unwritten n before.earlier (omega arith) lies in
+      subst (λ (b : Bool). Knows (touched since n b) k (region_at regions k).writes) (sym reads) (knows_before since n k (region_at regions k).writes (h before))
+]
+
+-- whom the region has to wait for, the segment names
+waits_named : (regions : List Region) (at k n : ℕ) (since : Since) → Knows since k (region_at regions k).writes → WaitsAt regions at k n →
+    Contains (sources since (region_at regions n).writes) k
+waits_named regions at k n since knows waits = elim (cases_Bool (region_at regions n).writes) [
+  | inl writes ↦ subst (λ (b : Bool). Contains (sources since b) k) (sym writes) knows.write
+  | inr reads ↦ subst (λ (b : Bool). Contains (sources since b) k) (sym reads)
+      (knows.read (elim waits.clash.written [ inl written ↦ written | inr writes ↦ absurd (true≢false (sym writes ∙ reads)) ]))
+]
+
 -- one more region is linked
-pub linked_more : (regions : List Region) (n : ℕ) (segments segments' : List Since) (links links' : List Link) → n < length regions → (region_at regions n).to ≤ length segments →
-    IsLinked regions n segments links →
+pub linked_more : (regions : List Region) (n : ℕ) (segments segments' : List Since) (links links' : List Link) → n < length regions → IsLinked regions n segments links →
     IsTouched segments segments' (region_at regions n).from (region_at regions n).to n (region_at regions n).task (region_at regions n).writes links links' →
     IsLinked regions (n + 1) segments' links'
-linked_more regions n segments segments' links links' within laid h t =
+linked_more regions n segments segments' links links' within h t =
     let r : Region = region_at regions n in
-    let closed_before : (gone : ℕ → Bool) → IsClosed regions links' gone → IsClosed regions links gone =
-    λ gone closed k j lt here g. closed k j lt (t.kept (link k (task_at regions j)) here) g in
     let asked : (at k : ℕ) → Lies r at → Contains (sources (since_at segments at) r.writes) k → Contains links' (link k r.task) =
     λ at k lies there. t.made (link k r.task) (record { at = at; behind = lies.0; before = lies.1; to_task = refl; source = there }) in
     record {
-      guards = λ gone closed at inside.
-          let g = h.guards gone (closed_before gone closed) at (omega (arith, inside, t.long)) in
-          elim (lies_cases r at) [
-            | inl lies ↦ subst (λ (s : Since). Guards gone s (Seen regions (n + 1) at)) (sym (t.inside at lies.0 lies.1))
-                (guards_more gone (since_at segments at) (Seen regions n at) (Seen regions (n + 1) at) n r.writes g
-                (λ gone_now k there. closed k n within (asked at k lies there) gone_now) (seen_more regions n at))
-            | inr away ↦ subst (λ (s : Since). Guards gone s (Seen regions (n + 1) at)) (sym (t.outside at away))
-                (guards_same gone (since_at segments at) (Seen regions n at) (Seen regions (n + 1) at) g
-                (λ k w seen. elim (seen_more regions n at k w seen) [
-                  | inl before ↦ before
-                  | inr now ↦ absurd (not_both r at away (subst (λ (i : ℕ). Lies (region_at regions i) at) now.0 seen.covers))
-                ]))
-          ];
-      full = λ gone closed k j lt clash let_in. elim (cases_eq j n) [
+      recent = λ at k now. elim (lies_cases r at) [
+        | inl lies ↦ subst (λ (s : Since). Knows s k (region_at regions k).writes) (sym (t.inside at lies.0 lies.1))
+            (recent_touched regions at k n (since_at segments at) (h.recent at k) lies now)
+        | inr away ↦ subst (λ (s : Since). Knows s k (region_at regions k).writes) (sym (t.outside at away))
+            (h.recent at k (recent_before regions at k n now (λ same. not_both r at away (subst (λ (i : ℕ). Lies (region_at regions i) at) same now.covers))))
+      ];
+      made = λ at k j lt waits. elim (cases_eq j n) [
         | inl same ↦
-            let now : Clash regions k n = subst (Clash regions k) same clash in
-            let let_in_now : IsLetIn links' gone r.task = subst (λ (i : ℕ). IsLetIn links' gone (task_at regions i)) same let_in in
-            let place = shared (region_at regions k) r now.meets in
-            let g = h.guards gone (closed_before gone closed) place.at (omega (arith, place.in_other.1, laid)) in
-            let all : AllGone gone (sources (since_at segments place.at) r.writes) = λ s there. let_in_now s (asked place.at s place.in_other there) in
-            elim (cases_Bool r.writes) [
-              | inl writes ↦ g.write k (region_at regions k).writes (record { before = now.earlier; covers = place.in_one; mode = refl })
-                  (subst (λ (b : Bool). AllGone gone (sources (since_at segments place.at) b)) writes all)
-              | inr reads ↦ elim now.written [
-                | inl written ↦ g.read k (record { before = now.earlier; covers = place.in_one; mode = written }) (subst (λ (b : Bool). AllGone gone (sources (since_at segments place.at) b)) reads all)
-                | inr writes ↦ absurd (true≢false (sym writes ∙ reads))
-              ]
-            ]
-        | inr other ↦ h.full gone (closed_before gone closed) k j (omega (arith, lt, other)) clash (λ s here. let_in s (t.kept (link s (task_at regions j)) here))
+            let now : WaitsAt regions at k n = subst (WaitsAt regions at k) same waits in
+            subst (λ (i : ℕ). Contains links' (link k (task_at regions i))) (sym same)
+            (asked at k now.clash.other (waits_named regions at k n (since_at segments at) (h.recent at k now.recent) now))
+        | inr other ↦ t.kept (link k (task_at regions j)) (h.made at k j (omega (arith, lt, other)) waits)
       ];
       sound = λ k task here. elim (t.only (link k task) here) [
         | inl before ↦ h.sound k task before

@@ -103,6 +103,21 @@ none_open links first gone handed left startable capacity g empty task ready =
     let at_most = count_by-le-length (λ x. x == task) startable in
     absurd (omega (arith, g.queued.each task within, due_open _ _ free (get_or_from_slice_get handed task false true ready.waits), at_most, empty))
 
+-- the last element of a list, and what stands before it
+last_split : (x : ℕ) (xs : List ℕ) → (rest : List ℕ) × (last : ℕ) × (x ∷ xs ≡ rest ++ last ∷ [])
+last_split x [] = ([], x, refl)
+last_split x (y ∷ ys) =
+    let tail = last_split y ys in
+    (x ∷ tail.0, tail.1, ap (λ (zs : List ℕ). x ∷ zs) tail.2)
+
+-- where no task is open, the list is empty
+pub empty_if_none : (links : List Link) (first : List ℕ) (gone handed : List Bool) (left startable : List ℕ) (capacity : ℕ) →
+    IsGraph links first gone handed left startable capacity → ((task : ℕ) → ¬ IsOpen (record { links = links; gone = gone; handed = handed }) task) → length startable ≡ 0
+empty_if_none links first gone handed left [] capacity g none = refl
+empty_if_none links first gone handed left (task ∷ startable) capacity g none =
+    let split = last_split task startable in
+    absurd (none split.1 (after_next links first gone handed left (task ∷ startable) split.0 capacity split.1 g split.2).open_before)
+
 -- a count that falls as one source goes: a link held before holds still, or leads from that source
 one_goes : (leads : Bool) → cond (leads && not false) 1 0 ≡ cond (leads && not true) 1 0 + cond (true && leads) 1 0
 one_goes true = refl

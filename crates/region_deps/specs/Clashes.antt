@@ -1,4 +1,4 @@
--- Regions on one line, which of them clash, and which links an order of them asks for. No public clause cites this module.
+-- Regions on one line, which of them clash, and which links an order of them asks for. Besides the laws no public clause cites this module.
 use Rattle.std.specs.Prelude.{◌≡◌, ℕ, ◌<◌, ◌≤◌, Bool, true, false, ◌⊎◌, List, Contains, length, slice_index_or}
 use Rattle.region_deps.specs.declared.graph.Link.{Link}
 use Rattle.region_deps.specs.declared.segments.Region.{Region}

@@ -3,6 +3,8 @@ pub mod Links
 pub mod Queues
 pub mod Clashes
 pub mod Segments
+pub mod Chains
+pub mod Laws
 pub mod Lines
 pub mod Epochs
 pub mod Holding

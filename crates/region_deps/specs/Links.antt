@@ -1,4 +1,4 @@
--- Links from sources to the tasks that wait for them, and what a graph of them is seen as. No public clause cites this module.
+-- Links from sources to the tasks that wait for them, and what a graph of them is seen as. Besides the laws no public clause cites this module.
 use Rattle.std.specs.Prelude.{◌≡◌, ◌==◌, ℕ, ◌<◌, Bool, true, false, not, ◌&&◌, List, Contains, slice_get, slice_index_or, Some}
 use Rattle.region_deps.specs.declared.graph.Link.{Link}
 

@@ -7,6 +7,7 @@ ghost use Rattle.region_deps.specs.Readiness.{Readiness, IsWhole, IsStartable, u
 ghost use Rattle.region_deps.specs.Holding.{IsOrderly, IsGone, IsGoneIf, IsLinkedUp, region_count};
 ghost use Rattle.region_deps.specs.Epochs.{IsGrouped};
 ghost use Rattle.region_deps.specs.Clashes.{IsFull, IsSound};
+ghost use Rattle.region_deps.specs.Chains.{IsLinkedAll};
 ghost use Rattle.region_deps.specs.Lines.{IsSmallTask};
 
 #[cfg(test)]
@@ -50,8 +51,8 @@ impl Model for Deps {
 }
 
 impl Deps {
-    /// The dependencies of a program of which no task was handed out. Takes time in the accesses and in the segments that
-    /// they cover, times a logarithm.
+    /// The dependencies of a program of which no task was handed out. Takes time in the tasks, the accesses and the segments
+    /// that these cover, times a logarithm.
     pub fn build(alloc: Global, prog: &Program) -> Result<Deps, AllocError>
         requires { WellFormed prog.now }
         ensures untouched { IfOk result (λ deps. deps ≡ untouched prog.now) }
@@ -95,6 +96,13 @@ impl Deps {
     {
         let task = self.graph.next()?;
         Some(TaskNo(task))
+    }
+
+    /// Whether no task is left that may start and was not handed out. Takes constant time.
+    pub fn none_startable(&self) -> bool
+        ensures { IsTrue result ↔ ((t : ℕ) → ¬ IsStartable self.now t) }
+    {
+        self.graph.none_open()
     }
 
     /// Whether the task may start, also where it was handed out. Looks at its count alone.
@@ -153,6 +161,7 @@ fn links(
 // The links that an order of these regions asks for.
 fn linked_on_line(alloc: Global, regions: &[Region]) -> Result<Vec<Link>, AllocError>
     requires { length regions.now < 4294967296 }
+    ensures linked { IfOk result (λ links. IsLinkedAll regions.now links.items) }
     ensures full { IfOk result (λ links. IsFull regions.now links.items) }
     ensures sound { IfOk result (λ links. IsSound regions.now links.items) }
 {

@@ -84,6 +84,13 @@ impl Graph {
         Some(task)
     }
 
+    /// Whether every task that is let in was handed out.
+    pub fn none_open(&self) -> bool
+        ensures { IsTrue result ↔ ((task : ℕ) → ¬ IsOpen self.now task) }
+    {
+        self.startable.is_empty()
+    }
+
     /// Whether every source that is linked to the task is gone.
     pub fn is_let_in(&self, task: u32) -> bool
         requires known { task < length self.now.handed }

@@ -5,6 +5,7 @@ mod bounds;
 mod deps;
 mod epochs;
 mod graph;
+pub mod laws;
 mod order;
 mod regions;
 #[cfg(test)]

@@ -3,7 +3,8 @@
 ghost use Rattle.std.specs.Prelude.{◌≡◌, ℕ, ◌<◌, ◌≤◌, ◌++◌, All, IfOk, OnOk, length, map, replicate, Option};
 ghost use Rattle.std.specs.Option.{option_to_list};
 ghost use Rattle.region_deps.specs.Links.{link, IsWithin};
-ghost use Rattle.region_deps.specs.Clashes.{IsFull, IsSound};
+ghost use Rattle.region_deps.specs.Clashes.{IsSound};
+ghost use Rattle.region_deps.specs.Chains.{IsLinkedAt};
 ghost use Rattle.region_deps.specs.Segments.{sources, touched, untouched, IsTouched};
 
 use crate::graph::Link;
@@ -119,7 +120,7 @@ fn fresh(alloc: Global, segments: usize) -> Result<Vec<Segment>, AllocError>
 pub fn linked(alloc: Global, regions: &[Region], segments: usize) -> Result<Vec<Link>, AllocError>
     requires laid { All (λ region. region.to ≤ segments) regions.now }
     requires numbered { length regions.now < 4294967296 }
-    ensures full { IfOk result (λ links. IsFull regions.now links.items) }
+    ensures linked { IfOk result (λ links. (at : ℕ) → IsLinkedAt regions.now links.items at) }
     ensures sound { IfOk result (λ links. IsSound regions.now links.items) }
 {
     let mut segments = fresh(alloc, segments)?;

@@ -15,4 +15,3 @@ pub mod Outside
 pub mod Touched
 pub mod InUse
 pub mod Pieces
-pub mod Whole

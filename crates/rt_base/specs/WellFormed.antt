@@ -1,5 +1,4 @@
--- What holds of every program that is run. The limits are this project's own.
--- What the language asks beside this is in `Whole`; the programs of today's form keep to it, and no clause asks it yet.
+-- What holds of every program that is run: all that the language asks of it. The limits are this project's own.
 use Rattle.std.specs.Prelude.{◌≡◌, ◌≢◌, ℕ, ◌+◌, ◌*◌, ◌^◌, ◌<◌, ◌≤◌, Bool, true, false, List, [], ◌∷◌, ◌++◌, length, Contains, All, AllPairs, Any, sum, sum_by, count_by, filter, slice_index_or, ℤ, pos, ◌≤ℤ◌, Option, Some, None, ⊤, if◌then◌else◌}
 use Rattle.std.specs.List.{list_any}
 use Rattle.rt_base.specs.declared.data.Span.{Span}
@@ -22,6 +21,7 @@ use Rattle.rt_base.specs.Spans.{span_len, Covers, Overlaps, is_written}
 use Rattle.rt_base.specs.Layout.{array_count, array_len, memory_len}
 use Rattle.rt_base.specs.Operations.{postings, is_receive}
 use Rattle.rt_base.specs.InUse.{left_after, is_in_use}
+use Rattle.rt_base.specs.Pieces.{pieces}
 
 -- the bounds are in order, and a span that isn't empty lies in an array of the rank
 pub record IsSpan (program : Program) (rank : ℕ) (span : Span) : Type 0 where
@@ -153,12 +153,15 @@ pub record Follows (earlier : List Op) (operation : Op) : Type 0 where
   pub handles : NamesOpen earlier operation
   pub free : is_in_use earlier operation ≡ false
 
--- a task: its rank exists, its regions lie in arrays and share no cell, and its operations may stand there
+-- a task: its rank exists, its regions lie in arrays and share no cell, its operations may stand there and follow one another,
+-- and each request that the posting itself didn't wait for is named by a wait
 pub record IsTask (program : Program) (task : TaskDef) : Type 0 where
   pub rank : task.rank < program.ranks
   pub regions : All (λ (access : Access). IsSpan program task.rank access.span) task.accesses.items
   pub apart : AllPairs (λ (one other : Access). ¬ Overlaps one.span other.span) task.accesses.items
   pub body : All (IsOperation program task) task.body.items
+  pub follows : (earlier later : List Op) (operation : Op) → task.body.items ≡ earlier ++ operation ∷ later → Follows earlier operation
+  pub none_left : left_after 0 task.body.items ≡ []
 
 -- the cells that an operation sends
 abbrev pub cells_sent : Op → ℕ
@@ -190,6 +193,7 @@ pub record WellFormed (program : Program) : Type 0 where
   pub ranks : program.ranks ≤ 64
   pub eager : program.eager ≤ 16777216
   pub comms : 1 ≤ program.comms
+  pub few_comms : program.comms ≤ 256
   pub arrays : array_count program ≤ 1024
   pub lens : length program.lens.items ≡ program.ranks * array_count program
   pub cells : memory_len program ≤ 16777216
@@ -200,5 +204,8 @@ pub record WellFormed (program : Program) : Type 0 where
   pub access_cells : sum_by region_cells program.tasks.items ≤ 134217728
   pub operations : sum_by (λ (task : TaskDef). length task.body.items) program.tasks.items ≤ 1048576
   pub requests : sum_by (λ (task : TaskDef). postings task.body.items) program.tasks.items ≤ 262144
+  pub handles : over_operations names_of program.tasks.items ≤ 1048576
+  pub message_cells : over_operations cells_sent program.tasks.items ≤ 67108864
+  pub few_pieces : pieces program.tasks.items ≤ 16777216
   pub order : AllPairs InOrder program.tasks.items
   pub tasks : All (IsTask program) program.tasks.items

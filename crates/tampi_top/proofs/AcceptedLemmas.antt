@@ -1,25 +1,46 @@
--- A text has the program that its tree says.
-use Rattle.std.proofs.Common.{◌≡◌, ℕ, List, Result, Ok, Err, IfOk, IfErr}
+-- A text says what its tree says.
+use Rattle.std.proofs.Common.{◌≡◌, ℕ, List, Result, Ok, Err, IfOk, inl, inr, subst, sym}
 use Rattle.rt_base.specs.declared.data.Program.{Program}
+use Rattle.rt_base.specs.WellFormed.{WellFormed}
 use Rattle.task_tree.specs.declared.tree.Stmt.{Stmt}
-use Rattle.task_parse.specs.Trees.{IsTree}
-use Rattle.task_expand.specs.Simple.{IsProgramOfTree}
+use Rattle.task_tree.specs.Blocks.{Block, Top, written, Nested}
+use Rattle.task_parse.specs.Trees.{IsTree, IsReason}
+use Rattle.task_parse.specs.declared.refusal.ParseRefusal.{ParseRefusal}
 use Rattle.tampi_top.specs.declared.words.Command.{Command}
 use Rattle.tampi_top.specs.declared.accepted.Unaccepted.{Unaccepted}
 use Rattle.tampi_top.specs.declared.accepted.Unaccepted.TheVariants as unaccepted
-use Rattle.tampi_top.specs.Accepted.{IsProgramText, HasNoProgram}
-use Rattle.tampi_top.specs.Whys.{IsNone, IsWhy}
+use Rattle.tampi_top.specs.Accepted.{said_by, Unrolls}
+use Rattle.tampi_top.specs.Whys.{IsFoundOf, IsFound}
 
--- the program of the tree is that of the text
-pub accepted_from : (asked : Command) (text : List ℕ) (stmts : List Stmt) (result : Result Program Unaccepted) → IsTree text stmts
-    → IfOk result (λ program. IsProgramOfTree stmts asked.ranks asked.eager program) → IfOk result (λ program. IsProgramText asked text program)
-accepted_from asked text stmts (Ok program) spelled unrolled = record { stmts = stmts; spelled = spelled; unrolled = unrolled }
-accepted_from asked text stmts (Err why) spelled unrolled = tt
+-- the text in blocks is spelled by the text
+spelled_by : (text : List ℕ) (stmts : List Stmt) (whole : Block) → IsTree text stmts → written whole ≡ stmts → IsTree text (written whole)
+spelled_by text stmts whole tree is = subst (IsTree text) (sym is) tree
 
--- where the tree says no program, the text says none
-pub why_from : (asked : Command) (text : List ℕ) (stmts : List Stmt) (result : Result Program Unaccepted) → IsTree text stmts
-    → IfErr result (λ why. IsNone stmts asked why) → IfErr result (λ why. IsWhy asked text why)
-why_from asked text stmts (Ok program) spelled none = tt
-why_from asked text stmts (Err (unaccepted.Fault number kind)) spelled none = absurd none
-why_from asked text stmts (Err unaccepted.NotBuilt) spelled none = record { stmts = stmts; spelled = spelled; none = none }
-why_from asked text stmts (Err unaccepted.Memory) spelled none = tt
+found_by : (asked : Command) (text : List ℕ) (whole : Block) (result : Result Program Unaccepted) → IsTree text (written whole) → Nested 64 Top whole
+    → IsFoundOf whole asked result → IsFound asked text result
+found_by asked text whole (Ok program) spelled nested found = record {
+  unrolls = record { whole = whole; spelled = spelled; nested = nested; unrolled = found.0 };
+  plain = found.1;
+}
+found_by asked text whole (Err (unaccepted.Fault number kind)) spelled nested found =
+    inr (record { whole = whole; spelled = spelled; nested = nested; unrolled = found })
+found_by asked text whole (Err (unaccepted.Limit which)) spelled nested found = record { whole = whole; spelled = spelled; nested = nested; unrolled = found }
+found_by asked text whole (Err unaccepted.Ahead) spelled nested found = record {
+  said = found.0;
+  unrolls = record { whole = whole; spelled = spelled; nested = nested; unrolled = found.1 };
+  ahead = found.2;
+}
+found_by asked text whole (Err unaccepted.Memory) spelled nested found = tt
+
+-- what was found of the tree is found of the text
+pub found_from : (asked : Command) (text : List ℕ) (stmts : List Stmt) (result : Result Program Unaccepted) → IsTree text stmts
+    → ((whole : Block) → written whole ≡ stmts → IsFoundOf whole asked result) → IsFound asked text result
+found_from asked text stmts result tree found =
+    let blocks = tree.1 in
+    found_by asked text blocks.0 result (spelled_by text stmts blocks.0 tree blocks.1) blocks.2 (found blocks.0 blocks.1)
+
+-- a program of the tree is well formed
+pub well_formed_from : (text : List ℕ) (stmts : List Stmt) (result : Result Program Unaccepted) → IsTree text stmts
+    → ((whole : Block) → written whole ≡ stmts → Nested 64 Top whole → IfOk result (λ program. WellFormed program))
+    → IfOk result (λ program. WellFormed program)
+well_formed_from text stmts result tree well = let blocks = tree.1 in well blocks.0 blocks.1 blocks.2

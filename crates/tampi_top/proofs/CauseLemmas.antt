@@ -1,5 +1,5 @@
 -- What is due of a told text is one thing alone.
-use Rattle.std.proofs.Common.{◌≡◌, ℕ, ◌+◌, ◌≤◌, List, [], length, Option, Some, None, Result, Ok, Err, refl, ap, sym, ◌∙◌, subst, arith, length-append}
+use Rattle.std.proofs.Common.{◌≡◌, ℕ, ◌+◌, ◌≤◌, List, [], length, Option, Some, None, Result, Ok, Err, refl, ap, inl, inr, sym, ◌∙◌, subst, arith, length-append}
 use Rattle.rt_base.specs.declared.data.Status.{Status}
 use Rattle.rt_base.specs.declared.data.Entry.{Entry}
 use Rattle.rt_base.specs.declared.data.Program.{Program}
@@ -8,16 +8,21 @@ use Rattle.std.specs.Io.KnownBytes.{Consumes}
 use Rattle.task_tree.specs.declared.tree.Stmt.{Stmt}
 use Rattle.task_parse.specs.Trees.{IsTree, IsFirstFault, IsOutcome}
 use Rattle.task_parse.specs.Laws.{OneOutcome}
-use Rattle.task_expand.specs.Simple.{IsProgramOfTree}
+use Rattle.task_tree.specs.Blocks.{Block, written}
+use Rattle.task_tree.specs.Laws.{OneTextInBlocks}
+use Rattle.task_unroll.specs.declared.refusal.ExpandRefusal.{ExpandRefusal}
+use Rattle.task_unroll.specs.declared.refusal.ExpandRefusal.TheVariants as unrolling
+use Rattle.core_book.specs.Plain.{IsPlain}
 use Rattle.tampi_top.specs.declared.words.Command.{Command}
 use Rattle.tampi_top.specs.declared.ending.Verdict.{Verdict}
+use Rattle.tampi_top.specs.declared.ending.Refusal.{Refusal}
 use Rattle.tampi_top.specs.declared.ending.Refusal.TheVariants as refusal
 use Rattle.tampi_top.specs.declared.ending.Ending.{Ending}
 use Rattle.tampi_top.specs.declared.ending.Ending.TheVariants as ending
 use Rattle.tampi_top.specs.Words.{command}
 use Rattle.tampi_top.specs.Input.{IsReadWhole, IsTooLong}
-use Rattle.tampi_top.specs.Accepted.{IsProgramText, HasNoProgram}
-use Rattle.tampi_top.specs.Due.{Call, IsRun, IsText, IsDue}
+use Rattle.tampi_top.specs.Accepted.{said_by, Unrolls, IsProgramText, IsTextAhead, IsFaultText, IsLimitText}
+use Rattle.tampi_top.specs.Due.{Call, IsRun, IsText, IsRefusedText, IsDue}
 use Rattle.tampi_top.specs.Laws.{IsGiven}
 
 -- what a text has: a tree or a first fault
@@ -40,11 +45,90 @@ one_fault law text one other here there = let e = same_outcome law text (Err one
 one_tree : OneOutcome → (text : List ℕ) (one other : List Stmt) → IsTree text one → IsTree text other → one ≡ other
 one_tree law text one other here there = let e = same_outcome law text (Ok one) (Ok other) here there in cc
 
--- a text that says a program is none that says no program
-program_or_none : OneOutcome → (asked : Command) (text : List ℕ) (program : Program) → IsProgramText asked text program → HasNoProgram asked text → ⊥
-program_or_none law asked text program said none =
-    let same : said.stmts ≡ none.stmts = one_tree law text said.stmts none.stmts said.spelled none.spelled in
-    none.none program (subst (λ (stmts : List Stmt). IsProgramOfTree stmts asked.ranks asked.eager program) same said.unrolled)
+-- unrolling gives one thing of a text
+one_unrolled : OneOutcome → OneTextInBlocks → (asked : Command) (text : List ℕ) (one other : Result Program ExpandRefusal)
+    → Unrolls asked text one → Unrolls asked text other → one ≡ other
+one_unrolled law blocks asked text one other here there =
+    let same : here.whole ≡ there.whole = blocks here.whole there.whole (one_tree law text (written here.whole) (written there.whole) here.spelled there.spelled) in
+    sym here.unrolled ∙ ap (λ (whole : Block). said_by whole asked) same ∙ there.unrolled
+
+-- a text that unrolls has no fault as it is read
+unrolled_and_fault : OneOutcome → (asked : Command) (text : List ℕ) (one : Result Program ExpandRefusal) (number : ℕ) (kind : FaultKind)
+    → Unrolls asked text one → IsFirstFault text number kind → ⊥
+unrolled_and_fault law asked text one number kind here fault = tree_and_fault law text (written here.whole) number kind here.spelled fault
+
+-- a text that says a program is not refused
+run_or_refused : OneOutcome → OneTextInBlocks → (asked : Command) (text : List ℕ) (said : Program) (why : Refusal)
+    → IsProgramText asked text said → IsRefusedText asked text why → ⊥
+run_or_refused law blocks asked text said refusal.Words run refused = refused
+run_or_refused law blocks asked text said refusal.ReadFault run refused = refused
+run_or_refused law blocks asked text said refusal.TooLong run refused = refused
+run_or_refused law blocks asked text said (refusal.Fault number kind) run (inl fault) =
+    unrolled_and_fault law asked text (Ok said) number kind run.unrolls fault
+run_or_refused law blocks asked text said (refusal.Fault number kind) run (inr met) =
+    let e = one_unrolled law blocks asked text (Ok said) (Err (unrolling.Fault number kind)) run.unrolls met in cc
+run_or_refused law blocks asked text said (refusal.Limit which) run met =
+    let e = one_unrolled law blocks asked text (Ok said) (Err (unrolling.Limit which)) run.unrolls met in cc
+run_or_refused law blocks asked text said refusal.NotBuilt run ahead =
+    let e = one_unrolled law blocks asked text (Ok said) (Ok ahead.said) run.unrolls ahead.unrolls in
+    let same : said ≡ ahead.said = cc in
+    ahead.ahead (subst IsPlain same run.plain)
+
+-- two faults of a text are one
+one_text_fault : OneOutcome → OneTextInBlocks → (asked : Command) (text : List ℕ) (number line : ℕ) (kind other : FaultKind)
+    → IsFaultText asked text number kind → IsFaultText asked text line other → refusal.Fault number kind ≡ refusal.Fault line other
+one_text_fault law blocks asked text number line kind other (inl here) (inl there) =
+    ap (λ (f : ℕ × FaultKind). refusal.Fault f.0 f.1) (one_fault law text (number, kind) (line, other) here there)
+one_text_fault law blocks asked text number line kind other (inl here) (inr there) =
+    absurd (unrolled_and_fault law asked text (Err (unrolling.Fault line other)) number kind there here)
+one_text_fault law blocks asked text number line kind other (inr here) (inl there) =
+    absurd (unrolled_and_fault law asked text (Err (unrolling.Fault number kind)) line other here there)
+one_text_fault law blocks asked text number line kind other (inr here) (inr there) =
+    let e = one_unrolled law blocks asked text (Err (unrolling.Fault number kind)) (Err (unrolling.Fault line other)) here there in
+    let lines : number ≡ line = cc in
+    let kinds : kind ≡ other = cc in
+    cc
+
+-- a fault of a text stands beside no other outcome of unrolling
+fault_and : OneOutcome → OneTextInBlocks → (asked : Command) (text : List ℕ) (number : ℕ) (kind : FaultKind) (one : Result Program ExpandRefusal)
+    → IsFaultText asked text number kind → Unrolls asked text one → one ≡ Err (unrolling.Fault number kind)
+fault_and law blocks asked text number kind one (inl fault) met = absurd (unrolled_and_fault law asked text one number kind met fault)
+fault_and law blocks asked text number kind one (inr fault) met = one_unrolled law blocks asked text one (Err (unrolling.Fault number kind)) met fault
+
+-- a text is refused in one way
+one_refusal : OneOutcome → OneTextInBlocks → (asked : Command) (text : List ℕ) (one other : Refusal)
+    → IsRefusedText asked text one → IsRefusedText asked text other → one ≡ other
+one_refusal law blocks asked text refusal.Words other here there = absurd here
+one_refusal law blocks asked text refusal.ReadFault other here there = absurd here
+one_refusal law blocks asked text refusal.TooLong other here there = absurd here
+one_refusal law blocks asked text (refusal.Fault number kind) refusal.Words here there = absurd there
+one_refusal law blocks asked text (refusal.Fault number kind) refusal.ReadFault here there = absurd there
+one_refusal law blocks asked text (refusal.Fault number kind) refusal.TooLong here there = absurd there
+one_refusal law blocks asked text (refusal.Limit which) refusal.Words here there = absurd there
+one_refusal law blocks asked text (refusal.Limit which) refusal.ReadFault here there = absurd there
+one_refusal law blocks asked text (refusal.Limit which) refusal.TooLong here there = absurd there
+one_refusal law blocks asked text refusal.NotBuilt refusal.Words here there = absurd there
+one_refusal law blocks asked text refusal.NotBuilt refusal.ReadFault here there = absurd there
+one_refusal law blocks asked text refusal.NotBuilt refusal.TooLong here there = absurd there
+one_refusal law blocks asked text (refusal.Fault number kind) (refusal.Fault line other) here there =
+    one_text_fault law blocks asked text number line kind other here there
+one_refusal law blocks asked text (refusal.Fault number kind) (refusal.Limit which) here there =
+    absurd (let e = fault_and law blocks asked text number kind (Err (unrolling.Limit which)) here there in cc)
+one_refusal law blocks asked text (refusal.Fault number kind) refusal.NotBuilt here there =
+    absurd (let e = fault_and law blocks asked text number kind (Ok there.said) here there.unrolls in cc)
+one_refusal law blocks asked text (refusal.Limit which) (refusal.Fault number kind) here there =
+    absurd (let e = fault_and law blocks asked text number kind (Err (unrolling.Limit which)) there here in cc)
+one_refusal law blocks asked text (refusal.Limit which) (refusal.Limit other) here there =
+    let e = one_unrolled law blocks asked text (Err (unrolling.Limit which)) (Err (unrolling.Limit other)) here there in
+    let same : which ≡ other = cc in
+    cc
+one_refusal law blocks asked text (refusal.Limit which) refusal.NotBuilt here there =
+    absurd (let e = one_unrolled law blocks asked text (Err (unrolling.Limit which)) (Ok there.said) here there.unrolls in cc)
+one_refusal law blocks asked text refusal.NotBuilt (refusal.Fault number kind) here there =
+    absurd (let e = fault_and law blocks asked text number kind (Ok here.said) there here.unrolls in cc)
+one_refusal law blocks asked text refusal.NotBuilt (refusal.Limit which) here there =
+    absurd (let e = one_unrolled law blocks asked text (Ok here.said) (Err (unrolling.Limit which)) here.unrolls there in cc)
+one_refusal law blocks asked text refusal.NotBuilt refusal.NotBuilt here there = refl
 
 -- a text of few bytes has no front of many
 no_long_front : (left : Option (List ℕ)) (text front : List ℕ) → length text ≤ 1048576 → length front ≡ 1048577 → Consumes (Some text) left front → ⊥
@@ -82,52 +166,44 @@ run_of_given call asked text outcome entries statuses written given run =
 not_refused : (asked : Command) (words : Option Command) → words ≡ Some asked → words ≡ None → ⊥
 not_refused asked words some none = cc
 
-pub programs_are_run : OneOutcome
+pub programs_are_run : OneOutcome → OneTextInBlocks
     → (call : Call) (ends : Ending) (entries : List Entry) (statuses : List Status) (written : List ℕ) → IsDue call ends entries statuses written
     → (asked : Command) (text : List ℕ) (program : Program) → IsGiven call asked text → IsProgramText asked text program
     → (outcome : Verdict) × (ends ≡ ending.Ran outcome) × (call.left ≡ Some [])
-programs_are_run law call (ending.Ran outcome) entries statuses written due asked text program given said =
+programs_are_run law blocks call (ending.Ran outcome) entries statuses written due asked text program given said =
     (outcome, refl, (whole_text call asked text due.input given due.whole).1)
-programs_are_run law call (ending.Refused refusal.Words) entries statuses written due asked text program given said =
+programs_are_run law blocks call (ending.Refused refusal.Words) entries statuses written due asked text program given said =
     absurd (not_refused asked (command call.words) given.is_asked due.0.0)
-programs_are_run law call (ending.Refused refusal.ReadFault) entries statuses written due asked text program given said = absurd (given.no_fault due.0.2)
-programs_are_run law call (ending.Refused refusal.TooLong) entries statuses written due asked text program given said =
+programs_are_run law blocks call (ending.Refused refusal.ReadFault) entries statuses written due asked text program given said = absurd (given.no_fault due.0.2)
+programs_are_run law blocks call (ending.Refused refusal.TooLong) entries statuses written due asked text program given said =
     absurd (not_too_long call asked text given due.0.2)
-programs_are_run law call (ending.Refused (refusal.Fault number kind)) entries statuses written due asked text program given said =
-    absurd (tree_and_fault law text said.stmts number kind said.spelled (of_given call asked text (λ one input. IsFirstFault input number kind) given due.0))
-programs_are_run law call (ending.Refused refusal.NotBuilt) entries statuses written due asked text program given said =
-    absurd (program_or_none law asked text program said (of_given call asked text HasNoProgram given due.0))
+programs_are_run law blocks call (ending.Refused (refusal.Fault number kind)) entries statuses written due asked text program given said =
+    absurd (run_or_refused law blocks asked text program (refusal.Fault number kind) said
+    (of_given call asked text (λ one input. IsRefusedText one input (refusal.Fault number kind)) given due.0))
+programs_are_run law blocks call (ending.Refused (refusal.Limit which)) entries statuses written due asked text program given said =
+    absurd (run_or_refused law blocks asked text program (refusal.Limit which) said
+    (of_given call asked text (λ one input. IsRefusedText one input (refusal.Limit which)) given due.0))
+programs_are_run law blocks call (ending.Refused refusal.NotBuilt) entries statuses written due asked text program given said =
+    absurd (run_or_refused law blocks asked text program refusal.NotBuilt said
+    (of_given call asked text (λ one input. IsRefusedText one input refusal.NotBuilt) given due.0))
 
-pub faults_are_refused : OneOutcome
+pub texts_are_refused : OneOutcome → OneTextInBlocks
     → (call : Call) (ends : Ending) (entries : List Entry) (statuses : List Status) (written : List ℕ) → IsDue call ends entries statuses written
-    → (asked : Command) (text : List ℕ) (number : ℕ) (kind : FaultKind) → IsGiven call asked text → IsFirstFault text number kind
-    → ends ≡ ending.Refused (refusal.Fault number kind)
-faults_are_refused law call (ending.Ran outcome) entries statuses written due asked text number kind given fault =
+    → (asked : Command) (text : List ℕ) (why : Refusal) → IsGiven call asked text → IsRefusedText asked text why → ends ≡ ending.Refused why
+texts_are_refused law blocks call (ending.Ran outcome) entries statuses written due asked text why given refused =
     let run = run_of_given call asked text outcome entries statuses written given due in
-    absurd (tree_and_fault law text run.1.stmts number kind run.1.spelled fault)
-faults_are_refused law call (ending.Refused refusal.Words) entries statuses written due asked text number kind given fault =
+    absurd (run_or_refused law blocks asked text run.0 why run.1 refused)
+texts_are_refused law blocks call (ending.Refused refusal.Words) entries statuses written due asked text why given refused =
     absurd (not_refused asked (command call.words) given.is_asked due.0.0)
-faults_are_refused law call (ending.Refused refusal.ReadFault) entries statuses written due asked text number kind given fault = absurd (given.no_fault due.0.2)
-faults_are_refused law call (ending.Refused refusal.TooLong) entries statuses written due asked text number kind given fault =
+texts_are_refused law blocks call (ending.Refused refusal.ReadFault) entries statuses written due asked text why given refused = absurd (given.no_fault due.0.2)
+texts_are_refused law blocks call (ending.Refused refusal.TooLong) entries statuses written due asked text why given refused =
     absurd (not_too_long call asked text given due.0.2)
-faults_are_refused law call (ending.Refused (refusal.Fault line other)) entries statuses written due asked text number kind given fault =
-    let found = of_given call asked text (λ one input. IsFirstFault input line other) given due.0 in
-    ap (λ (f : ℕ × FaultKind). ending.Refused (refusal.Fault f.0 f.1)) (one_fault law text (line, other) (number, kind) found fault)
-faults_are_refused law call (ending.Refused refusal.NotBuilt) entries statuses written due asked text number kind given fault =
-    let none = of_given call asked text HasNoProgram given due.0 in
-    absurd (tree_and_fault law text none.stmts number kind none.spelled fault)
-
-pub others_are_not_built : OneOutcome
-    → (call : Call) (ends : Ending) (entries : List Entry) (statuses : List Status) (written : List ℕ) → IsDue call ends entries statuses written
-    → (asked : Command) (text : List ℕ) → IsGiven call asked text → HasNoProgram asked text → ends ≡ ending.Refused refusal.NotBuilt
-others_are_not_built law call (ending.Ran outcome) entries statuses written due asked text given none =
-    let run = run_of_given call asked text outcome entries statuses written given due in
-    absurd (program_or_none law asked text run.0 run.1 none)
-others_are_not_built law call (ending.Refused refusal.Words) entries statuses written due asked text given none =
-    absurd (not_refused asked (command call.words) given.is_asked due.0.0)
-others_are_not_built law call (ending.Refused refusal.ReadFault) entries statuses written due asked text given none = absurd (given.no_fault due.0.2)
-others_are_not_built law call (ending.Refused refusal.TooLong) entries statuses written due asked text given none =
-    absurd (not_too_long call asked text given due.0.2)
-others_are_not_built law call (ending.Refused (refusal.Fault number kind)) entries statuses written due asked text given none =
-    absurd (tree_and_fault law text none.stmts number kind none.spelled (of_given call asked text (λ one input. IsFirstFault input number kind) given due.0))
-others_are_not_built law call (ending.Refused refusal.NotBuilt) entries statuses written due asked text given none = refl
+texts_are_refused law blocks call (ending.Refused (refusal.Fault number kind)) entries statuses written due asked text why given refused =
+    ap (λ (one : Refusal). ending.Refused one) (one_refusal law blocks asked text (refusal.Fault number kind) why
+    (of_given call asked text (λ one input. IsRefusedText one input (refusal.Fault number kind)) given due.0) refused)
+texts_are_refused law blocks call (ending.Refused (refusal.Limit which)) entries statuses written due asked text why given refused =
+    ap (λ (one : Refusal). ending.Refused one) (one_refusal law blocks asked text (refusal.Limit which) why
+    (of_given call asked text (λ one input. IsRefusedText one input (refusal.Limit which)) given due.0) refused)
+texts_are_refused law blocks call (ending.Refused refusal.NotBuilt) entries statuses written due asked text why given refused =
+    ap (λ (one : Refusal). ending.Refused one) (one_refusal law blocks asked text refusal.NotBuilt why
+    (of_given call asked text (λ one input. IsRefusedText one input refusal.NotBuilt) given due.0) refused)

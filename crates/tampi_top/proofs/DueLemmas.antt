@@ -17,6 +17,8 @@ decided_by call asked text (due.Refused refusal.ReadFault) is_asked whole short 
 decided_by call asked text (due.Refused refusal.TooLong) is_asked whole short of_text = absurd of_text
 decided_by call asked text (due.Refused (refusal.Fault number kind)) is_asked whole short of_text =
     record { asked = asked; is_asked = is_asked; input = text; whole = whole; short = short; holds = of_text }
+decided_by call asked text (due.Refused (refusal.Limit which)) is_asked whole short of_text =
+    record { asked = asked; is_asked = is_asked; input = text; whole = whole; short = short; holds = of_text }
 decided_by call asked text (due.Refused refusal.NotBuilt) is_asked whole short of_text =
     record { asked = asked; is_asked = is_asked; input = text; whole = whole; short = short; holds = of_text }
 decided_by call asked text (due.Ran run) is_asked whole short of_text = record {

@@ -4,6 +4,5 @@ pub mod DueLemmas
 pub mod EndLemmas
 pub mod NumberLemmas
 pub mod PieceLemmas
-pub mod PlainLemmas
 pub mod ReportLemmas
 pub mod WordLemmas

@@ -1,20 +1,42 @@
--- Which texts have a program, and which one.
-use Rattle.std.specs.Prelude.{◌≡◌, ℕ, List}
+-- What a text says: the program that unrolling gives, or the fault or limit that is met first.
+use Rattle.std.specs.Prelude.{◌≡◌, ℕ, ◌-◌, List, Result, Ok, Err, ◌⊎◌}
 use Rattle.rt_base.specs.declared.data.Program.{Program}
 use Rattle.rt_base.specs.declared.data.FaultKind.{FaultKind}
-use Rattle.task_tree.specs.declared.tree.Stmt.{Stmt}
-use Rattle.task_parse.specs.Trees.{IsTree}
-use Rattle.task_expand.specs.Simple.{IsProgramOfTree}
+use Rattle.rt_base.specs.declared.data.LimitName.{LimitName}
+use Rattle.task_tree.specs.Blocks.{Block, Top, written, Nested}
+use Rattle.task_parse.specs.Trees.{IsTree, IsFirstFault}
+use Rattle.task_unroll.specs.declared.refusal.ExpandRefusal.{ExpandRefusal}
+use Rattle.task_unroll.specs.declared.refusal.ExpandRefusal.TheVariants as unrolling
+use Rattle.task_unroll.specs.Ranks.{program}
+use Rattle.core_book.specs.Plain.{IsPlain}
 use Rattle.tampi_top.specs.declared.words.Command.{Command}
 
--- the text says this program, for the command's ranks and eager limit, and meets no fault and no limit (this project's)
-pub record IsProgramText (asked : Command) (text : List ℕ) (program : Program) : Type 0 where
-  pub stmts : List Stmt
-  pub spelled : IsTree text stmts
-  pub unrolled : IsProgramOfTree stmts asked.ranks asked.eager program
+-- what unrolling gives of a text in blocks, for the command's ranks and eager limit
+abbrev pub said_by : Block → Command → Result Program ExpandRefusal
+said_by whole asked = program whole (asked.ranks - 1) asked.eager
 
--- the text has a tree, of which no program can be run yet
-pub record HasNoProgram (asked : Command) (text : List ℕ) : Type 0 where
-  pub stmts : List Stmt
-  pub spelled : IsTree text stmts
-  pub none : (program : Program) → IsProgramOfTree stmts asked.ranks asked.eager program → ⊥
+-- the text is one in blocks, of which unrolling gives this (this project's)
+pub record Unrolls (asked : Command) (text : List ℕ) (outcome : Result Program ExpandRefusal) : Type 0 where
+  pub whole : Block
+  pub spelled : IsTree text (written whole)
+  pub nested : Nested 64 Top whole
+  pub unrolled : said_by whole asked ≡ outcome
+
+-- the text says this program, and meets no fault and no limit; and the program is one that is run today
+pub record IsProgramText (asked : Command) (text : List ℕ) (said : Program) : Type 0 where
+  pub unrolls : Unrolls asked text (Ok said)
+  pub plain : IsPlain said
+
+-- the text says a program that cannot be run yet
+pub record IsTextAhead (asked : Command) (text : List ℕ) : Type 0 where
+  pub said : Program
+  pub unrolls : Unrolls asked text (Ok said)
+  pub ahead : ¬ IsPlain said
+
+-- the first fault of the text as it is read, or else the first that unrolling meets, before every limit
+abbrev pub IsFaultText : Command → List ℕ → ℕ → FaultKind → Type 0
+IsFaultText asked text number kind = IsFirstFault text number kind ⊎ Unrolls asked text (Err (unrolling.Fault number kind))
+
+-- unrolling meets this limit, before every fault
+abbrev pub IsLimitText : Command → List ℕ → LimitName → Type 0
+IsLimitText asked text which = Unrolls asked text (Err (unrolling.Limit which))

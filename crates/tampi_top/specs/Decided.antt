@@ -2,20 +2,14 @@
 use Rattle.std.specs.Prelude.{ℕ, List, ⊤}
 use Rattle.rt_base.specs.declared.data.Program.{Program}
 use Rattle.tampi_top.specs.declared.words.Command.{Command}
-use Rattle.tampi_top.specs.declared.ending.Refusal.TheVariants as refusal
 use Rattle.tampi_top.specs.declared.decided.Due.{Due}
 use Rattle.tampi_top.specs.declared.decided.Due.TheVariants as due
-use Rattle.task_parse.specs.Trees.{IsFirstFault}
-use Rattle.tampi_top.specs.Accepted.{IsProgramText, HasNoProgram}
-use Rattle.tampi_top.specs.Due.{Call, IsRunOf, IsRun, HasCause}
+use Rattle.tampi_top.specs.Accepted.{IsProgramText}
+use Rattle.tampi_top.specs.Due.{Call, IsRunOf, IsRun, IsRefusedText, HasCause}
 
 -- what a text asks for: a run of its program with the report, or a refusal where it says none; want of memory is free
 abbrev pub IsOfText : Command → List ℕ → Due → Type 0
-IsOfText asked text (due.Refused refusal.Words) = ⊥
-IsOfText asked text (due.Refused refusal.ReadFault) = ⊥
-IsOfText asked text (due.Refused refusal.TooLong) = ⊥
-IsOfText asked text (due.Refused (refusal.Fault number kind)) = IsFirstFault text number kind
-IsOfText asked text (due.Refused refusal.NotBuilt) = HasNoProgram asked text
+IsOfText asked text (due.Refused why) = IsRefusedText asked text why
 IsOfText asked text (due.Ran run) =
     (program : Program) × IsProgramText asked text program
     × IsRunOf program run.verdict run.history.entries.items run.history.statuses.items run.report.items

@@ -4,6 +4,9 @@ use Rattle.std.specs.Fmt.{decimal}
 use Rattle.rt_base.specs.declared.data.Phase.{Phase}
 use Rattle.rt_base.specs.declared.data.FaultKind.{FaultKind}
 use Rattle.rt_base.specs.declared.data.FaultKind.TheVariants as fault
+use Rattle.rt_base.specs.declared.data.LimitName.{LimitName}
+use Rattle.rt_base.specs.declared.data.LimitName.TheVariants as limit
+use Rattle.task_unroll.specs.Counting.{most}
 use Rattle.tampi_top.specs.declared.ending.Refusal.{Refusal}
 use Rattle.tampi_top.specs.declared.ending.Refusal.TheVariants as refusal
 use Rattle.tampi_top.specs.declared.ending.Verdict.{Verdict}
@@ -21,6 +24,7 @@ refusal_status refusal.Words = 2
 refusal_status refusal.ReadFault = 4
 refusal_status refusal.TooLong = 7
 refusal_status (refusal.Fault number kind) = 3
+refusal_status (refusal.Limit which) = 8
 refusal_status refusal.NotBuilt = 9
 
 -- the status of a call whose whole text was written
@@ -63,12 +67,32 @@ kind_text fault.TraceHeader = codes "TraceHeader"
 abbrev pub fault_text : ℕ → FaultKind → List ℕ
 fault_text number kind = codes "refused " ++ (decimal number ++ (codes " " ++ (kind_text kind ++ codes "\n")))
 
+-- the name of a limit
+abbrev pub limit_name : LimitName → List ℕ
+limit_name limit.Arrays = codes "arrays"
+limit_name limit.Comms = codes "comms"
+limit_name limit.Cells = codes "cells"
+limit_name limit.Tasks = codes "tasks"
+limit_name limit.Accesses = codes "accesses"
+limit_name limit.AccessCells = codes "access_cells"
+limit_name limit.Operations = codes "operations"
+limit_name limit.Requests = codes "requests"
+limit_name limit.Names = codes "names"
+limit_name limit.MessageCells = codes "message_cells"
+limit_name limit.Steps = codes "steps"
+limit_name limit.Pieces = codes "pieces"
+
+-- `limit NAME N`
+abbrev pub limit_text : LimitName → List ℕ
+limit_text which = codes "limit " ++ (limit_name which ++ (codes " " ++ (decimal (most which) ++ codes "\n")))
+
 -- the one line of a call that runs nothing
 abbrev pub refusal_text : Refusal → List ℕ
 refusal_text refusal.Words = codes "words refused\n"
 refusal_text refusal.ReadFault = codes "read fault\n"
 refusal_text refusal.TooLong = codes "too long\n"
 refusal_text (refusal.Fault number kind) = fault_text number kind
+refusal_text (refusal.Limit which) = limit_text which
 refusal_text refusal.NotBuilt = codes "not built\n"
 
 -- how a run ended whose tasks stand there

@@ -3,17 +3,15 @@ use Rattle.std.specs.Prelude.{◌≡◌, ℕ, ◌≤◌, List, [], length, Some}
 use Rattle.rt_base.specs.declared.data.Status.{Status}
 use Rattle.rt_base.specs.declared.data.Entry.{Entry}
 use Rattle.rt_base.specs.declared.data.Program.{Program}
-use Rattle.rt_base.specs.declared.data.FaultKind.{FaultKind}
 use Rattle.rt_base.specs.Outside.{Rose}
 use Rattle.tampi_top.specs.declared.words.Command.{Command}
 use Rattle.tampi_top.specs.declared.ending.Verdict.{Verdict}
 use Rattle.tampi_top.specs.declared.ending.Ending.{Ending}
 use Rattle.tampi_top.specs.declared.ending.Ending.TheVariants as ending
-use Rattle.tampi_top.specs.declared.ending.Refusal.TheVariants as refusal
-use Rattle.task_parse.specs.Trees.{IsFirstFault}
+use Rattle.tampi_top.specs.declared.ending.Refusal.{Refusal}
 use Rattle.tampi_top.specs.Words.{command}
-use Rattle.tampi_top.specs.Accepted.{IsProgramText, HasNoProgram}
-use Rattle.tampi_top.specs.Due.{Call, IsDue}
+use Rattle.tampi_top.specs.Accepted.{IsProgramText}
+use Rattle.tampi_top.specs.Due.{Call, IsRefusedText, IsDue}
 
 -- the words of a call give this command, and its source tells this text of at most 1,048,576 bytes, at which no read failed
 pub record IsGiven (call : Call) (asked : Command) (text : List ℕ) : Type 0 where
@@ -29,15 +27,8 @@ ProgramsAreRun =
     → (asked : Command) (text : List ℕ) (program : Program) → IsGiven call asked text → IsProgramText asked text program
     → (outcome : Verdict) × (ends ≡ ending.Ran outcome) × (call.left ≡ Some [])
 
--- a told text with a fault is refused with its first fault
-abbrev pub FaultsAreRefused : Type 0
-FaultsAreRefused =
+-- a told text with a fault, a limit that it meets first, or a program that cannot be run yet is refused so
+abbrev pub TextsAreRefused : Type 0
+TextsAreRefused =
     (call : Call) (ends : Ending) (entries : List Entry) (statuses : List Status) (written : List ℕ) → IsDue call ends entries statuses written
-    → (asked : Command) (text : List ℕ) (number : ℕ) (kind : FaultKind) → IsGiven call asked text → IsFirstFault text number kind
-    → ends ≡ ending.Refused (refusal.Fault number kind)
-
--- a told text that has a tree, of which there is no program that is run, is not built
-abbrev pub OthersAreNotBuilt : Type 0
-OthersAreNotBuilt =
-    (call : Call) (ends : Ending) (entries : List Entry) (statuses : List Status) (written : List ℕ) → IsDue call ends entries statuses written
-    → (asked : Command) (text : List ℕ) → IsGiven call asked text → HasNoProgram asked text → ends ≡ ending.Refused refusal.NotBuilt
+    → (asked : Command) (text : List ℕ) (why : Refusal) → IsGiven call asked text → IsRefusedText asked text why → ends ≡ ending.Refused why

@@ -1,22 +1,26 @@
--- Why a text was not accepted. No public clause cites this module.
-use Rattle.std.specs.Prelude.{ℕ, List, ⊤}
+-- What a text was found to say. No public clause cites this module.
+use Rattle.std.specs.Prelude.{◌≡◌, ℕ, List, Result, Ok, Err, ⊤}
 use Rattle.rt_base.specs.declared.data.Program.{Program}
-use Rattle.task_tree.specs.declared.tree.Stmt.{Stmt}
-use Rattle.task_parse.specs.Trees.{IsFirstFault}
-use Rattle.task_expand.specs.Simple.{IsProgramOfTree}
+use Rattle.task_tree.specs.Blocks.{Block}
+use Rattle.task_unroll.specs.declared.refusal.ExpandRefusal.TheVariants as unrolling
+use Rattle.core_book.specs.Plain.{IsPlain}
 use Rattle.tampi_top.specs.declared.words.Command.{Command}
 use Rattle.tampi_top.specs.declared.accepted.Unaccepted.{Unaccepted}
 use Rattle.tampi_top.specs.declared.accepted.Unaccepted.TheVariants as unaccepted
-use Rattle.tampi_top.specs.Accepted.{HasNoProgram}
+use Rattle.tampi_top.specs.Accepted.{said_by, IsProgramText, IsTextAhead, IsFaultText, IsLimitText}
 
--- the statements of a tree say no program; want of memory is free
-abbrev pub IsNone : List Stmt → Command → Unaccepted → Type 0
-IsNone stmts asked (unaccepted.Fault number kind) = ⊥
-IsNone stmts asked unaccepted.NotBuilt = (program : Program) → IsProgramOfTree stmts asked.ranks asked.eager program → ⊥
-IsNone stmts asked unaccepted.Memory = ⊤
+-- what a text in blocks was found to say; want of memory is free
+abbrev pub IsFoundOf : Block → Command → Result Program Unaccepted → Type 0
+IsFoundOf whole asked (Ok program) = (said_by whole asked ≡ Ok program) × IsPlain program
+IsFoundOf whole asked (Err (unaccepted.Fault number kind)) = said_by whole asked ≡ Err (unrolling.Fault number kind)
+IsFoundOf whole asked (Err (unaccepted.Limit which)) = said_by whole asked ≡ Err (unrolling.Limit which)
+IsFoundOf whole asked (Err unaccepted.Ahead) = (said : Program) × (said_by whole asked ≡ Ok said) × ¬ IsPlain said
+IsFoundOf whole asked (Err unaccepted.Memory) = ⊤
 
--- the text has this first fault, or its tree says no program; want of memory is free
-abbrev pub IsWhy : Command → List ℕ → Unaccepted → Type 0
-IsWhy asked text (unaccepted.Fault number kind) = IsFirstFault text number kind
-IsWhy asked text unaccepted.NotBuilt = HasNoProgram asked text
-IsWhy asked text unaccepted.Memory = ⊤
+-- what a text was found to say; want of memory is free
+abbrev pub IsFound : Command → List ℕ → Result Program Unaccepted → Type 0
+IsFound asked text (Ok program) = IsProgramText asked text program
+IsFound asked text (Err (unaccepted.Fault number kind)) = IsFaultText asked text number kind
+IsFound asked text (Err (unaccepted.Limit which)) = IsLimitText asked text which
+IsFound asked text (Err unaccepted.Ahead) = IsTextAhead asked text
+IsFound asked text (Err unaccepted.Memory) = ⊤

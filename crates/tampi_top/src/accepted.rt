@@ -1,53 +1,59 @@
 //! From the bytes of a text to its program.
-ghost use Rattle.std.specs.Prelude.{◌≡◌, ◌≤◌, length, IfOk, IfErr};
+ghost use Rattle.std.specs.Prelude.{◌≡◌, ◌≤◌, length, IfOk};
 ghost use Rattle.rt_base.specs.declared.data.Program.{Program};
 ghost use Rattle.rt_base.specs.WellFormed.{WellFormed};
+ghost use Rattle.task_tree.specs.Blocks.{Block, Top, written, Nested};
 ghost use Rattle.core_book.specs.Plain.{IsPlain};
-ghost use Rattle.task_expand.specs.Simple.{IsProgramOfTree};
-ghost use Rattle.tampi_top.specs.Accepted.{IsProgramText};
-ghost use Rattle.tampi_top.specs.Whys.{IsNone, IsWhy};
+ghost use Rattle.tampi_top.specs.Whys.{IsFoundOf, IsFound};
 ghost use Rattle.tampi_top.specs.Settings.{IsInRange};
 
+use crate::plain::is_plain;
 use crate::words::Command;
-use rt_base::{FaultKind, Program};
+use rt_base::{FaultKind, LimitName, Program};
 use std::alloc::Global;
 use task_expand::{ExpandRefusal, expand};
 use task_parse::{ParseRefusal, parse};
 use task_tree::Tree;
 
-/// Why a text has no program.
+/// Why a text has no program that is run.
 #[derive(Clone, Copy, Debug, PartialEq, Eq)]
 pub enum Unaccepted {
     /// The text has this first fault, at this line, counted from 1.
     Fault { line: u32, kind: FaultKind },
-    /// It has a tree that is not of the form that is built, or meets a fault or a limit as it is unrolled.
-    NotBuilt,
+    /// The text meets this limit first.
+    Limit { which: LimitName },
+    /// The text says a program that cannot be run yet.
+    Ahead,
     Memory,
 }
 
 // The program that the tree says.
 fn unrolled(alloc: Global, tree: &Tree, asked: Command) -> Result<Program, Unaccepted>
     requires range { IsInRange asked }
-    ensures program { IfOk result (λ program. IsProgramOfTree tree.now.items asked.ranks asked.eager program) }
-    ensures well_formed { IfOk result (λ program. WellFormed program) }
-    ensures plain { IfOk result (λ program. IsPlain program) }
-    ensures none { IfErr result (λ why. IsNone tree.now.items asked why) }
+    ensures found { (whole : Block) → written whole ≡ tree.now.items → IsFoundOf whole asked result }
+    ensures well_formed { (whole : Block) → written whole ≡ tree.now.items → Nested 64 Top whole → IfOk result (λ program. WellFormed program) }
 {
     match expand(alloc, tree, asked.ranks, asked.eager) {
-        Ok(program) => Ok(program),
-        Err(ExpandRefusal::Refused) => Err(Unaccepted::NotBuilt),
+        Ok(program) => {
+            if is_plain(&program) {
+                Ok(program)
+            } else {
+                Err(Unaccepted::Ahead)
+            }
+        }
+        Err(ExpandRefusal::Fault { line, kind }) => Err(Unaccepted::Fault { line, kind }),
+        Err(ExpandRefusal::Limit { which }) => Err(Unaccepted::Limit { which }),
         Err(ExpandRefusal::Memory) => Err(Unaccepted::Memory),
     }
 }
 
-/// The program that the text says, for the command's ranks and eager limit.
+/// The program that the text says, for the command's ranks and eager limit, where it can be run.
 pub fn program_of(alloc: Global, text: &[u8], asked: Command) -> Result<Program, Unaccepted>
     requires short { length text.now ≤ 1048576 }
     requires range { IsInRange asked }
-    ensures accepted { IfOk result (λ program. IsProgramText asked text.now program) }
+    ensures found { IsFound asked text.now result }
     ensures well_formed { IfOk result (λ program. WellFormed program) }
     ensures plain { IfOk result (λ program. IsPlain program) }
-    ensures why { IfErr result (λ why. IsWhy asked text.now why) }
 {
     match parse(alloc, text) {
         Ok(tree) => unrolled(alloc, &tree, asked),

@@ -31,7 +31,8 @@ fn due_of_text(alloc: Global, text: &[u8], asked: Command) -> Due
             Err(_) => Due::Memory,
         },
         Err(Unaccepted::Fault { line, kind }) => Due::Refused(Refusal::Fault { line, kind }),
-        Err(Unaccepted::NotBuilt) => Due::Refused(Refusal::NotBuilt),
+        Err(Unaccepted::Limit { which }) => Due::Refused(Refusal::Limit { which }),
+        Err(Unaccepted::Ahead) => Due::Refused(Refusal::NotBuilt),
         Err(Unaccepted::Memory) => Due::Memory,
     }
 }

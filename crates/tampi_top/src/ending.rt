@@ -2,7 +2,7 @@
 ghost use Rattle.std.specs.Prelude.{◌≡◌};
 ghost use Rattle.tampi_top.specs.Ending.{verdict_status, refusal_status};
 
-use rt_base::FaultKind;
+use rt_base::{FaultKind, LimitName};
 
 /// Why a call runs nothing.
 #[derive(Clone, Copy, Debug, PartialEq, Eq)]
@@ -15,7 +15,9 @@ pub enum Refusal {
     TooLong,
     /// The text has this first fault, at this line, counted from 1.
     Fault { line: u32, kind: FaultKind },
-    /// The text says no program that is built yet.
+    /// The text meets this limit first.
+    Limit { which: LimitName },
+    /// The text says a program that cannot be run yet.
     NotBuilt,
 }
 
@@ -54,6 +56,7 @@ pub fn refusal_status(refusal: Refusal) -> u8
         Refusal::ReadFault => 4,
         Refusal::TooLong => 7,
         Refusal::Fault { .. } => 3,
+        Refusal::Limit { .. } => 8,
         Refusal::NotBuilt => 9,
     }
 }

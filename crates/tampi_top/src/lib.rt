@@ -5,6 +5,7 @@ mod accepted;
 mod decided;
 mod ending;
 pub mod laws;
+mod plain;
 mod reading;
 mod refusing;
 mod report;
@@ -16,4 +17,10 @@ mod writing;
 pub use top::{Outcome, tampi};
 
 #[cfg(test)]
+mod limit_tests;
+#[cfg(test)]
+mod order_tests;
+#[cfg(test)]
 mod tests;
+#[cfg(test)]
+mod unrolled_tests;

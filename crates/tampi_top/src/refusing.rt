@@ -1,10 +1,11 @@
 //! The one line of a call that runs nothing.
 ghost use Rattle.std.specs.Prelude.{◌≡◌, ◌++◌, IfOk, OnOk};
-ghost use Rattle.tampi_top.specs.Ending.{kind_text, fault_text, refusal_text};
+ghost use Rattle.task_unroll.specs.Counting.{most};
+ghost use Rattle.tampi_top.specs.Ending.{kind_text, fault_text, limit_name, limit_text, refusal_text};
 
 use crate::ending::Refusal;
 use crate::report::{put, put_number};
-use rt_base::FaultKind;
+use rt_base::{FaultKind, LimitName};
 use std::alloc::{AllocError, Global};
 
 // The name of a kind of fault.
@@ -59,6 +60,57 @@ fn put_fault(
     put(text, "\n")
 }
 
+// The name of a limit.
+fn limit_name(which: LimitName) -> &'static str
+    ensures { result.now ≡ limit_name which }
+{
+    match which {
+        LimitName::Arrays => "arrays",
+        LimitName::Comms => "comms",
+        LimitName::Cells => "cells",
+        LimitName::Tasks => "tasks",
+        LimitName::Accesses => "accesses",
+        LimitName::AccessCells => "access_cells",
+        LimitName::Operations => "operations",
+        LimitName::Requests => "requests",
+        LimitName::Names => "names",
+        LimitName::MessageCells => "message_cells",
+        LimitName::Steps => "steps",
+        LimitName::Pieces => "pieces",
+    }
+}
+
+// The number of a limit.
+fn limit_number(which: LimitName) -> u32
+    ensures { result ≡ most which }
+{
+    match which {
+        LimitName::Arrays => 1_024,
+        LimitName::Comms => 256,
+        LimitName::Cells => 16_777_216,
+        LimitName::Tasks => 65_536,
+        LimitName::Accesses => 4_194_304,
+        LimitName::AccessCells => 134_217_728,
+        LimitName::Operations => 1_048_576,
+        LimitName::Requests => 262_144,
+        LimitName::Names => 1_048_576,
+        LimitName::MessageCells => 67_108_864,
+        LimitName::Steps => 16_777_216,
+        LimitName::Pieces => 16_777_216,
+    }
+}
+
+// Puts the line of a limit behind the text.
+fn put_limit(alloc: Global, text: &mut Vec<u8>, which: LimitName) -> Result<(), AllocError>
+    ensures { OnOk result (text.new.items ≡ text.old.items ++ limit_text which) }
+{
+    put(text, "limit ")?;
+    put(text, limit_name(which))?;
+    put(text, " ")?;
+    put_number(alloc, text, limit_number(which))?;
+    put(text, "\n")
+}
+
 /// The one line of a refusal, with its LF.
 pub fn line_of(alloc: Global, refusal: Refusal) -> Result<Vec<u8>, AllocError>
     ensures { IfOk result (λ text. text.items ≡ refusal_text refusal) }
@@ -69,6 +121,7 @@ pub fn line_of(alloc: Global, refusal: Refusal) -> Result<Vec<u8>, AllocError>
         Refusal::ReadFault => put(&mut text, "read fault\n")?,
         Refusal::TooLong => put(&mut text, "too long\n")?,
         Refusal::Fault { line, kind } => put_fault(alloc, &mut text, line, kind)?,
+        Refusal::Limit { which } => put_limit(alloc, &mut text, which)?,
         Refusal::NotBuilt => put(&mut text, "not built\n")?,
     }
     Ok(text)

@@ -20,7 +20,7 @@ const FILLED_AND_SENT: &[u8] =
 const NO_CELL: &[u8] = b"array a, 1\ntask\nin a[0..1]\ndo\nsend a[0..0], 0, 0\nend\n";
 
 // The words that a text separates by blanks.
-fn words_of(alloc: Global, text: &str) -> Result<Vec<String>, AllocError> {
+pub(crate) fn words_of(alloc: Global, text: &str) -> Result<Vec<String>, AllocError> {
     let mut words = Vec::new(alloc);
     for word in text.split_whitespace() {
         words.push(String::from_str(alloc, word)?)?;
@@ -61,7 +61,7 @@ fn a_text_is_run_and_reported(rt: HostRuntime) -> Result<(), Fail> {
             b"stuck\ntask 0 rank 0 line 2 in 0\ntask 1 rank 1 line 2 in 0\n",
             4,
         ),
-        ("run", RECEIVE_FIRST, 9, b"not built\n", 0),
+        ("run", RECEIVE_FIRST, 3, b"refused 5 BadRank\n", 0),
         ("run --eager 3", TO_ITSELF, 0, b"finished\n", 7),
         (
             "run --eager=2",
@@ -134,8 +134,8 @@ fn a_text_of_one_byte_too_many_is_too_long(rt: HostRuntime) -> Result<(), Fail> 
     Ok(())
 }
 
-// What a text comes to, read to its end: its status, and what was written.
-fn is_told<R: Threads + Wait + Sync>(
+// Whether a text comes to this, read to its end and without a move: its status, and what was written.
+pub(crate) fn is_told<R: Threads + Wait + Sync>(
     rt: &R,
     alloc: Global,
     text: &[u8],
@@ -172,38 +172,6 @@ fn a_text_with_a_fault_is_refused_at_its_first(rt: HostRuntime) -> Result<(), Fa
     Ok(())
 }
 
-#[test]
-fn a_text_of_another_form_is_not_built(rt: HostRuntime) -> Result<(), Fail> {
-    let alloc = rt.alloc();
-    let rows: [&[u8]; 8] = [
-        b"let x = 1\n",
-        b"comm c\n",
-        b"taskwait\n",
-        b"array u, 1 + 1\n",
-        b"task\ndo\nend\ntask\ndo\nend\n",
-        b"array u, 1\ntask\nout u[0..1]\ndo\nfill u[0..1], -7\nend\n",
-        b"array u, 1\ntask\nout u[0..1]\ndo\nrecv u[0..1], any, 0\nend\n",
-        b"array u, 1\ntask\nin u[0..1]\ndo\nisend q, u[0..1], 0, 0\nwait q\nend\n",
-    ];
-    for text in rows {
-        assert!(rt; is_told(&rt, alloc, text, 9, b"not built\n")?, "{text:?}");
-    }
-    Ok(())
-}
-
-// A comment and brackets play no part in the form.
-#[test]
-fn blanks_and_brackets_do_not_count(rt: HostRuntime) -> Result<(), Fail> {
-    let alloc = rt.alloc();
-    let text = b"# two cells\narray u, (2)\n\ntask # one\nout u[0..(2)]\ndo\nend\n";
-    let mut input = MemSource::new(text.to_vec(alloc)?);
-    let mut out = MemSink::new(alloc, 100)?;
-    let outcome = outcome_of(&rt, alloc, "run", &mut input, &mut out)?;
-    assert_eq!(rt; outcome.status, 0);
-    assert_eq!(rt; out.bytes(), b"finished\n".as_slice());
-    Ok(())
-}
-
 // `let x = `, a part so many times, a last part so many times, and the end of the line.
 fn long_line(
     alloc: Global,
@@ -230,10 +198,10 @@ fn long_line(
 fn long_lines_come_to_an_end(rt: HostRuntime) -> Result<(), Fail> {
     let alloc = rt.alloc();
     let sum = long_line(alloc, b"1+", 500_000, b"1", b"", 0)?;
-    assert!(rt; is_told(&rt, alloc, &sum, 9, b"not built\n")?, "a sum");
+    assert!(rt; is_told(&rt, alloc, &sum, 0, b"finished\n")?, "a sum");
     let product = long_line(alloc, b"1*", 500_000, b"1", b"", 0)?;
     assert!(rt;
-        is_told(&rt, alloc, &product, 9, b"not built\n")?,
+        is_told(&rt, alloc, &product, 0, b"finished\n")?,
         "a product"
     );
     let half = long_line(alloc, b"1+", 500_000, b"", b"", 0)?;

@@ -1,13 +1,3 @@
-pub mod Saying
-pub mod Distinct
-pub mod Pushing
-pub mod RunLemmas
-pub mod ArrayLemmas
-pub mod Counting
-pub mod PlaceLemmas
-pub mod SpanLemmas
-pub mod BodyLemmas
-pub mod OpLemmas
-pub mod ProgramLemmas
-pub mod FormLemmas
-pub mod SimpleLemmas
+mod RankKept
+mod RankChain
+mod WholePrograms

@@ -1,9 +1,1 @@
-pub mod Said
-pub mod Arrays
-pub mod Lines
-pub mod Lawful
-pub mod Cells
-pub mod Plans
 pub mod Ranks
-pub mod Forms
-pub mod Simple

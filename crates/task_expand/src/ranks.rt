@@ -1,141 +1,108 @@
-//! What differs by rank: peers, and so the bodies and the tasks.
+//! The ranks of a text, unrolled one after the other.
 
-ghost use Rattle.std.specs.Prelude.{◌≡◌, ℕ, ◌<◌, ◌≤◌, List, length, Some, IfOk, IfErr, slice_get};
-ghost use Rattle.rt_base.specs.declared.data.Op.{Op};
-ghost use Rattle.rt_base.specs.declared.data.TaskDef.{TaskDef};
-ghost use Rattle.task_expand.specs.declared.refusal.ExpandRefusal.TheVariants as refusal;
-ghost use Rattle.task_expand.specs.Lines.{rank_of, peer_of, op_of, body_of, repeated};
-ghost use Rattle.task_expand.specs.Ranks.{IsTaskFor, HasBodies};
+ghost use Rattle.std.specs.Prelude.{◌≡◌, ◌+◌, ◌-◌, ◌≤◌};
+ghost use Rattle.rt_base.specs.declared.data.Program.{Program};
+ghost use Rattle.task_tree.specs.Blocks.{Block, written};
+ghost use Rattle.task_unroll.specs.Unrolling.{Gives};
+ghost use Rattle.task_unroll.specs.Ends.{AreEnds};
+ghost use Rattle.task_unroll.specs.Ranks.{next_rank, first_rank, program_of};
+ghost use Rattle.task_expand.specs.Ranks.{ranks_up_to};
 
-use crate::plan::Plan;
-use crate::refusal::ExpandRefusal;
-use crate::simple::PeerText;
-use crate::work::Work;
-use rt_base::{Accesses, Body, Kernel, Lens, Op, Peer, TagSel, TaskDef, Tasks};
-use std::alloc::{AllocError, Global};
+use rt_base::{Program, TaskDef};
+use std::alloc::Global;
+use std::marker::Model;
+use task_tree::Stmt;
+use task_unroll::{Ends, ExpandRefusal, State, unroll};
 
-// The rank of this number, if there is one.
-fn rank_of(ranks: u16, number: i64) -> Option<u16>
-    ensures { result ≡ rank_of ranks number }
-{
-    if number < 0 || i64::from(ranks) <= number {
-        return None;
-    }
-    Some(number as u16)
+/// What the ranks so far leave: the lengths of their arrays, and what the last of them left.
+#[derive(Drop)]
+pub(crate) struct Ranks {
+    lens: Vec<u32>,
+    last: State,
 }
 
-// The peer of a message of this rank.
-fn peer_of(ranks: u16, rank: u16, peer: PeerText) -> Option<u16>
-    ensures { result ≡ peer_of ranks rank peer }
-{
-    match peer {
-        PeerText::At(number) => rank_of(ranks, number),
-        PeerText::AtMinusRank(number) => {
-            if number < 0 {
-                return None;
+impl Model for Ranks {
+    ghost use Rattle.task_unroll.specs.Ranks.{Ranks};
+
+    ghost Value = { Ranks };
+
+    ghost view = { λ r. record { lens = r.lens.items; last = r.last } };
+}
+
+impl Ranks {
+    // Rank 0 of so many.
+    fn first(alloc: Global, stmts: &[Stmt], ends: &Ends, size: u16) -> Result<Ranks, ExpandRefusal>
+        requires ends { AreEnds stmts.now ends.now }
+        ensures { (whole : Block) → written whole ≡ stmts.now → Gives (λ r. r) result (first_rank whole size) }
+    {
+        let mut last = State::first(alloc, size);
+        match unroll(alloc, stmts, ends, &mut last) {
+            Ok(()) => Ok(Ranks {
+                lens: last.lens().to_vec(alloc)?,
+                last,
+            }),
+            Err(refusal) => Err(refusal),
+        }
+    }
+
+    // One rank more, which has this number.
+    fn add(
+        &mut self,
+        alloc: Global,
+        stmts: &[Stmt],
+        ends: &Ends,
+        rank: u16,
+    ) -> Result<(), ExpandRefusal>
+        requires ends { AreEnds stmts.now ends.now }
+        ensures { (whole : Block) → written whole ≡ stmts.now → self.old.last.rank + 1 ≡ rank → Gives (λ _. self.new) result (next_rank whole self.old) }
+    {
+        self.last.begin_rank(alloc, rank);
+        match unroll(alloc, stmts, ends, &mut self.last) {
+            Ok(()) => {
+                self.lens.extend_from_slice(self.last.lens())?;
+                Ok(())
             }
-            rank_of(ranks, number - i64::from(rank))
+            Err(refusal) => Err(refusal),
         }
     }
-}
 
-// The operation of this rank.
-fn op_of(ranks: u16, rank: u16, work: Work) -> Option<Op>
-    ensures { result ≡ op_of ranks rank work }
-{
-    match work {
-        Work::Fill { dst, value } => Some(Op::Compute {
-            kernel: Kernel::Fill,
-            dst,
-            left: None,
-            right: None,
-            value,
-            step: 0,
-        }),
-        Work::Copy { dst, src } => Some(Op::Compute {
-            kernel: Kernel::Copy,
-            dst,
-            left: Some(src),
-            right: None,
-            value: 0,
-            step: 0,
-        }),
-        Work::Post {
-            how,
-            span,
-            peer,
-            tag,
-        } => {
-            let whom = peer_of(ranks, rank, peer)?;
-            Some(Op::Post {
-                how,
-                span,
-                peer: Peer::Rank(whom),
-                tag: TagSel::Tag(tag),
-                comm: 0,
-                status: None,
-            })
+    /// All of so many ranks.
+    pub(crate) fn all(
+        alloc: Global,
+        stmts: &[Stmt],
+        ends: &Ends,
+        size: u16,
+    ) -> Result<Ranks, ExpandRefusal>
+        requires ends { AreEnds stmts.now ends.now }
+        requires some_rank { 1 ≤ size }
+        ensures { (whole : Block) → written whole ≡ stmts.now → Gives (λ r. r) result (ranks_up_to whole size (size - 1)) }
+    {
+        match Ranks::first(alloc, stmts, ends, size) {
+            Ok(mut ranks) => {
+                for rank in 1..size {
+                    match ranks.add(alloc, stmts, ends, rank) {
+                        Ok(()) => {}
+                        Err(refusal) => return Err(refusal),
+                    }
+                }
+                Ok(ranks)
+            }
+            Err(refusal) => Err(refusal),
         }
     }
-}
 
-// The body of the task of this rank.
-fn body_of(alloc: Global, ranks: u16, rank: u16, works: &[Work]) -> Result<Vec<Op>, ExpandRefusal>
-    ensures body { IfOk result (λ body. body_of ranks rank works.now ≡ Some body.items) }
-    ensures refused { IfErr result (λ e. e ≡ refusal.Refused → (body : List Op) → body_of ranks rank works.now ≡ Some body → ⊥) }
-{
-    let mut body = Vec::new(alloc);
-    for work in works {
-        match op_of(ranks, rank, *work) {
-            Some(op) => body.push(op)?,
-            None => return Err(ExpandRefusal::Refused),
-        }
+    /// The tasks of all ranks.
+    pub(crate) fn tasks(&self) -> &[TaskDef]
+        ensures { result.now ≡ self.now.last.tasks }
+    {
+        self.last.tasks()
     }
-    Ok(body)
-}
 
-// The task of this rank.
-fn task_of(
-    alloc: Global,
-    plan: &Plan,
-    line: u32,
-    ranks: u16,
-    rank: u16,
-) -> Result<TaskDef, ExpandRefusal>
-    ensures task { IfOk result (λ task. IsTaskFor plan.now.accesses.items plan.now.works.items ranks line rank task) }
-    ensures refused { IfErr result (λ e. e ≡ refusal.Refused → (body : List Op) → body_of ranks rank plan.now.works.items ≡ Some body → ⊥) }
-{
-    let body = body_of(alloc, ranks, rank, &plan.works)?;
-    let accesses = Vec::from_slice(alloc, &plan.accesses)?;
-    Ok(TaskDef {
-        rank,
-        line,
-        epoch: 0,
-        accesses: Accesses::from_vec(accesses),
-        body: Body::from_vec(body),
-    })
-}
-
-// The tasks of all ranks.
-pub fn tasks_of(alloc: Global, plan: &Plan, line: u32, ranks: u16) -> Result<Tasks, ExpandRefusal>
-    ensures len { IfOk result (λ tasks. length tasks.items ≡ ranks) }
-    ensures tasks { IfOk result (λ tasks. (rank : ℕ) → (task : TaskDef) → slice_get tasks.items rank ≡ Some task → IsTaskFor plan.now.accesses.items plan.now.works.items ranks line rank task) }
-    ensures refused { IfErr result (λ e. e ≡ refusal.Refused → HasBodies ranks plan.now.works.items → ⊥) }
-{
-    let mut tasks = Vec::new(alloc);
-    for rank in 0..ranks {
-        tasks.push(task_of(alloc, plan, line, ranks, rank)?)?;
+    /// The program of all ranks, for an eager limit in cells. Takes no memory.
+    pub(crate) fn into_program(self, eager: u32) -> Program
+        ensures { result ≡ program_of eager self }
+    {
+        let Ranks { lens, last } = self;
+        last.into_program(eager, lens)
     }
-    Ok(Tasks::from_vec(tasks))
-}
-
-// The lengths of the arrays of all ranks.
-pub fn repeated(alloc: Global, lens: &Lens, ranks: u16) -> Result<Lens, AllocError>
-    ensures { IfOk result (λ all. all.items ≡ repeated ranks lens.now.items) }
-{
-    let mut all = Vec::new(alloc);
-    for _rank in 0..ranks {
-        all.extend_from_slice(lens.as_slice())?;
-    }
-    Ok(Lens::from_vec(all))
 }

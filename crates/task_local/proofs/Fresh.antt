@@ -43,7 +43,7 @@ all_are_regions [] rises = All-nil IsRegion
 all_are_regions (x ∷ xs) rises = All-cons IsRegion x xs rises.0 (all_are_regions xs rises.2)
 
 -- regions behind one that ends after a cell have none of the cells before it
-later_have_none : (x : Access) (xs : List Access) (array cell : ℕ) → Rises (x ∷ xs) → number array cell ≤ end_cell x → place_in xs array cell ≡ 0
+pub later_have_none : (x : Access) (xs : List Access) (array cell : ℕ) → Rises (x ∷ xs) → number array cell ≤ end_cell x → place_in xs array cell ≡ 0
 later_have_none x xs array cell rises before =
     let none = sum_by-le (cells_before array cell) 0 xs
     (λ k d within.
@@ -67,7 +67,7 @@ covered array cell x low is begun open_still =
     let array_is : x.span.array ≡ array = omega arith in
     (array_is, omega arith, omega arith)
 
-before_covered : (array cell : ℕ) (x : Access) → x.span.array ≡ array → x.span.from ≤ cell → cell < x.span.to → cells_before array cell x ≡ cell - x.span.from
+pub before_covered : (array cell : ℕ) (x : Access) → x.span.array ≡ array → x.span.from ≤ cell → cell < x.span.to → cells_before array cell x ≡ cell - x.span.from
 before_covered array cell x same above below = grind (arith, nat_tests)
 
 next_at_most : (array cell : ℕ) (x : Access) → x.span.array ≡ array → x.span.from ≤ cell → cells_before array (cell + 1) x ≤ (cell + 1) - x.span.from
@@ -160,12 +160,12 @@ length-loaded p rank memory long (x ∷ xs) lies =
     )
 
 -- a cell that is declared has a place of its own, in the regions too
-more_of_regions : (accesses : List Access) (array cell : ℕ) → place_in accesses array cell + 1 ≤ place_in accesses array (cell + 1)
+pub more_of_regions : (accesses : List Access) (array cell : ℕ) → place_in accesses array cell + 1 ≤ place_in accesses array (cell + 1)
     → place_in (regions accesses) array cell + 1 ≤ place_in (regions accesses) array (cell + 1)
 more_of_regions accesses array cell more = omega (arith, place_in-regions accesses array cell, place_in-regions accesses array (cell + 1))
 
 -- the places of a span follow one another
-run_is : (ordered : List Access) (array from count : ℕ) → Rises ordered → from + count < 2 ^ 32
+pub run_is : (ordered : List Access) (array from count : ℕ) → Rises ordered → from + count < 2 ^ 32
     → ((cell : ℕ) → from ≤ cell → cell < from + count → place_in ordered array cell + 1 ≤ place_in ordered array (cell + 1))
     → (k : ℕ) → k ≤ count → place_in ordered array (from + k) ≡ place_in ordered array from + k
 run_is ordered array from count rises low more zero within = let e : from + 0 ≡ from = omega arith in ap (λ c. place_in ordered array c) e ∙ omega arith

@@ -1,5 +1,6 @@
 pub mod Places
 pub mod Order
+pub mod Beside
 pub mod Copies
 pub mod Programs
 pub mod Kernels
@@ -7,3 +8,5 @@ pub mod Stands
 pub mod Samples
 pub mod Searches
 pub mod Fresh
+pub mod Saved
+pub mod Sums

@@ -20,9 +20,9 @@ use Rattle.rt_base.specs.WellFormed.{WellFormed, IsTask, IsSpan, IsOperation, Is
 use Rattle.task_local.specs.Regions.{regions, put, spliced}
 use Rattle.task_local.specs.Packed.{packed_by, packed}
 use Rattle.task_local.specs.Local.{run_front, stop_at, advanced, stop}
-use Rattle.task_local.specs.StandsFor.{Record, declared_cells}
+use Rattle.task_local.specs.StandsFor.{Record}
 use Rattle.task_local.specs.Standing.{no_task, def_of, def, moved_on, packed_next}
-use Rattle.task_local.specs.Kept.{LiesIn, FitsSend, sent_in, place_in, CanRun, SourceFits, HasRoomFor, IsPhaseOf, destination_len, cell_total}
+use Rattle.task_local.specs.Kept.{LiesIn, FitsSend, sent_in, place_in, CanRun, SourceFits, HasRoomFor, IsPhaseOf, HasScratchFor, cell_total}
 use Rattle.task_local.proofs.Places.{is_filled, All-regions, regions_filled, declared_fits_in, cell_total-regions}
 use Rattle.task_local.proofs.Order.{IsLowFilled, filled_is}
 use Rattle.task_local.proofs.Kernels.{takes_cells, source_is, put_in}
@@ -80,7 +80,7 @@ source_fits : (p : Program) (task : TaskDef) (source : Option Span) → OfSpan (
 source_fits p task None may = tt
 source_fits p task (Some span) may = declared_fits_in task.accesses.items span may.declared
 
-can_run : (p : Program) (task : TaskDef) (scratch : ℕ) (operation : Op) → IsOperation p task operation → destination_len operation ≤ scratch
+can_run : (p : Program) (task : TaskDef) (scratch : ℕ) (operation : Op) → IsOperation p task operation → HasScratchFor (regions task.accesses.items) scratch operation
     → CanRun (regions task.accesses.items) (cell_total task.accesses.items) scratch operation
 can_run p task scratch (op.Compute kind dst left right value step) is room = record {
   room = room;
@@ -93,9 +93,9 @@ can_run p task scratch (op.Post how span peer tag comm status) is room = tt
 can_run p task scratch (op.Await later handles status) is room = tt
 
 pub body_can_run : (p : Program) (task : TaskDef) (ordered : List Access) (copy scratch : ℕ) → IsTask p task → ordered ≡ regions task.accesses.items
-    → copy ≡ cell_total task.accesses.items → HasRoomFor task.body.items scratch → All (CanRun ordered copy scratch) task.body.items
+    → copy ≡ cell_total task.accesses.items → HasRoomFor ordered task.body.items scratch → All (CanRun ordered copy scratch) task.body.items
 body_can_run p task ordered copy scratch is order cells room = λ k d within.
-    rw (order, cells) (can_run p task scratch (get_or task.body.items k d) (is.body k d within) (room k d within))
+    rw (order, cells) (can_run p task scratch (get_or task.body.items k d) (is.body k d within) (rw order at (room k d within)))
 
 -- ---- what the fields of a record give
 
@@ -108,7 +108,7 @@ record_lies p q t def task ordered well same is_def is_task order =
     subst (All (LiesIn p def.rank)) order_def (regions_lie p def well (task_is p t def well is_def))
 
 -- its copy has the cells of its regions
-pub record_cells : (task : TaskDef) (ordered : List Access) (count : ℕ) → ordered ≡ regions task.accesses.items → count ≡ declared_cells task → count ≡ cell_total ordered
+pub record_cells : (task : TaskDef) (ordered : List Access) (count : ℕ) → ordered ≡ regions task.accesses.items → count ≡ region_cells task → count ≡ cell_total ordered
 record_cells task ordered count order cells = cells ∙ sym (cell_total-regions task.accesses.items) ∙ ap cell_total (sym order)
 
 -- they are few
@@ -124,11 +124,11 @@ record_total p q t def task ordered well same is_def is_task order =
 -- its operations can run
 pub record_can_run : (p q : Program) (t : ℕ) (def task : TaskDef) (ordered : List Access) (copy scratch : ℕ) → WellFormed p → p ≡ q
     → slice_get p.tasks.items t ≡ Some def → slice_get q.tasks.items t ≡ Some task → ordered ≡ regions task.accesses.items
-    → copy ≡ declared_cells task → HasRoomFor task.body.items scratch → All (CanRun ordered copy scratch) def.body.items
+    → copy ≡ region_cells task → HasRoomFor ordered task.body.items scratch → All (CanRun ordered copy scratch) def.body.items
 record_can_run p q t def task ordered copy scratch well same is_def is_task order cells room =
     let one = one_task p q t def task same is_def is_task in
     body_can_run p def ordered copy scratch (task_is p t def well is_def) (order ∙ ap (λ (d : TaskDef). regions d.accesses.items) (sym one))
-    (cells ∙ ap declared_cells (sym one)) (subst (λ (d : TaskDef). HasRoomFor d.body.items scratch) (sym one) room)
+    (cells ∙ ap region_cells (sym one)) (subst (λ (d : TaskDef). HasRoomFor ordered d.body.items scratch) (sym one) room)
 
 -- local operations stop at a phase that the task has
 stop_at_is : (task : TaskDef) (k : ℕ) (ops : List Op) → k + length ops ≡ length task.body.items → IsPhaseOf task (stop_at k ops)
@@ -152,7 +152,7 @@ unfolding advanced stop
 moved_on_is held d k stopped copy is_at is_def is_stopped is_copy = rw (is_at, is_def, is_stopped, is_copy) refl
 
 -- what is stored at the front of a declared span has its places in the copy
-pub record_stores : (task : TaskDef) (ordered : List Access) (count cells : ℕ) (span : Span) → ordered ≡ regions task.accesses.items → count ≡ declared_cells task
+pub record_stores : (task : TaskDef) (ordered : List Access) (count cells : ℕ) (span : Span) → ordered ≡ regions task.accesses.items → count ≡ region_cells task
     → IsDeclared task.accesses.items span → cells ≤ span_len span → place_in ordered span.array span.from + cells ≤ count
 record_stores task ordered count cells span order all declared fits =
     let within = declared_fits_in task.accesses.items span declared in
@@ -182,13 +182,13 @@ fits_send p task (op.Await later handles status) is = tt
 
 pub record_sends : (p q : Program) (t : ℕ) (def task : TaskDef) (ordered : List Access) (count k : ℕ) (operation : Op) → WellFormed p → p ≡ q
     → slice_get p.tasks.items t ≡ Some def → slice_get q.tasks.items t ≡ Some task → ordered ≡ regions task.accesses.items
-    → count ≡ declared_cells task → slice_get def.body.items k ≡ Some operation → FitsSend ordered count operation
+    → count ≡ region_cells task → slice_get def.body.items k ≡ Some operation → FitsSend ordered count operation
 record_sends p q t def task ordered count k operation well same is_def is_task order cells is_operation =
     let one = one_task p q t def task same is_def is_task in
     let is = subst (IsOperation p def) (get_or_from_slice_get def.body.items k operation operation is_operation)
     (All-get_or (IsOperation p def) def.body.items k operation (slice_get_within def.body.items k operation is_operation) (task_is p t def well is_def).body) in
     let order_def : ordered ≡ regions def.accesses.items = order ∙ ap (λ (d : TaskDef). regions d.accesses.items) (sym one) in
-    let count_def : count ≡ cell_total def.accesses.items = cells ∙ ap declared_cells (sym one) in
+    let count_def : count ≡ cell_total def.accesses.items = cells ∙ ap region_cells (sym one) in
     rw (order_def, count_def) (fits_send p def operation is)
 
 sent_is : (task : TaskDef) (ordered : List Access) (copy : List ℤ) (operation : Op) → ordered ≡ regions task.accesses.items

@@ -1,5 +1,5 @@
 -- What a record keeps in its fields. No clause of a public call cites this module.
-use Rattle.std.specs.Prelude.{◌≡◌, ℕ, ◌+◌, ◌*◌, ◌^◌, ◌<◌, ◌≤◌, List, [], length, take, drop, All, AllPairs, slice_get, slice_index, slice_index_or, sum_by, ℤ, pos, ◌≤ℤ◌, Option, Some, None, false, if◌then◌else◌, ⊤}
+use Rattle.std.specs.Prelude.{◌≡◌, ℕ, ◌+◌, ◌*◌, ◌^◌, ◌<◌, ◌≤◌, List, [], ◌++◌, length, take, drop, All, AllPairs, slice_get, slice_index, slice_index_or, sum_by, ℤ, pos, ◌≤ℤ◌, Option, Some, None, false, if◌then◌else◌, ⊤, ◌⊎◌}
 use Rattle.rt_base.specs.declared.data.Span.{Span}
 use Rattle.rt_base.specs.declared.data.Access.{Access}
 use Rattle.rt_base.specs.declared.data.Kernel.{Kernel}
@@ -13,8 +13,8 @@ use Rattle.rt_base.specs.declared.data.Program.{Program}
 use Rattle.rt_base.specs.Spans.{span_len}
 use Rattle.rt_base.specs.Operations.{is_receive}
 use Rattle.rt_base.specs.Layout.{array_place, address, memory_len}
+use Rattle.rt_base.specs.WellFormed.{region_cells}
 use Rattle.task_local.specs.Regions.{regions, cells_before}
-use Rattle.task_local.specs.StandsFor.{declared_cells}
 
 -- the phase names an operation that the task has
 abbrev pub IsPhaseOf : TaskDef → Phase → Type 0
@@ -24,25 +24,6 @@ IsPhaseOf task (phase.In k) = k < length task.body.items
 IsPhaseOf task phase.Ended = ⊤
 IsPhaseOf task phase.Returned = ⊤
 IsPhaseOf task phase.Released = ⊤
-
--- how many cells a local operation writes
-abbrev pub destination_len : Op → ℕ
-destination_len (op.Compute kind dst left right value step) = span_len dst
-destination_len (op.Post how span peer tag comm status) = 0
-destination_len (op.Await later handles status) = 0
-
--- so many cells are enough for the destination of each of these operations
-abbrev pub HasRoomFor : List Op → ℕ → Type 0
-HasRoomFor ops count = All (λ operation. destination_len operation ≤ count) ops
-
--- the task is there; its regions in order, a copy of its cells, and scratch for its longest destination
-pub record IsKept (program : Program) (t : ℕ) (where_at : Phase) (ordered : List Access) (copy scratch : List ℤ) : Type 0 where
-  pub task : TaskDef
-  pub is_task : slice_get program.tasks.items t ≡ Some task
-  pub place : IsPhaseOf task where_at
-  pub ordered_regions : ordered ≡ regions task.accesses.items
-  pub cells : length copy ≡ declared_cells task
-  pub room : HasRoomFor task.body.items (length scratch)
 
 -- the number of a region's first cell, by array and then by cell, and that of the place behind its last
 abbrev pub first_cell : Access → ℕ
@@ -94,6 +75,62 @@ abbrev pub source_len : Option Span → ℕ
 source_len None = 0
 source_len (Some span) = span_len span
 
+-- where a source lies in the copy; at its front where there is no such source
+abbrev pub source_place : List Access → Option Span → ℕ
+source_place ordered None = 0
+source_place ordered (Some span) = place_in ordered span.array span.from
+
+-- one part of the copy ends before the other begins
+abbrev pub AreApart : ℕ → ℕ → ℕ → ℕ → Type 0
+AreApart one one_count other other_count = (one + one_count ≤ other) ⊎ (other + other_count ≤ one)
+
+-- so many cells are scratch enough: the destination lies apart from both sources, or has no more cells
+abbrev pub IsRoomFor : ℕ → ℕ → ℕ → ℕ → ℕ → ℕ → ℕ → Type 0
+IsRoomFor scratch at count left left_count right right_count =
+    (AreApart at count left left_count × AreApart at count right right_count) ⊎ (count ≤ scratch)
+
+-- so many are scratch enough for an operation
+abbrev pub HasScratchFor : List Access → ℕ → Op → Type 0
+HasScratchFor ordered scratch (op.Compute kind dst left right value step) =
+    IsRoomFor scratch (place_in ordered dst.array dst.from) (span_len dst) (source_place ordered left) (source_len left)
+    (source_place ordered right) (source_len right)
+HasScratchFor ordered scratch (op.Post how span peer tag comm status) = ⊤
+HasScratchFor ordered scratch (op.Await later handles status) = ⊤
+
+-- so many are enough for an operation, and no fewer are
+pub record IsScratchFor (ordered : List Access) (scratch : ℕ) (operation : Op) : Type 0 where
+  pub enough : HasScratchFor ordered scratch operation
+  pub no_more : (other : ℕ) → HasScratchFor ordered other operation → scratch ≤ other
+
+-- so many are enough for each of these operations
+abbrev pub HasRoomFor : List Access → List Op → ℕ → Type 0
+HasRoomFor ordered ops scratch = All (HasScratchFor ordered scratch) ops
+
+-- so many are enough for each of these operations, and no fewer are: as many as the longest destination has of those that may
+-- share cells with a source, and 0 where there is no such destination
+pub record IsScratchOf (ordered : List Access) (ops : List Op) (scratch : ℕ) : Type 0 where
+  pub enough : HasRoomFor ordered ops scratch
+  pub no_more : (other : ℕ) → HasRoomFor ordered ops other → scratch ≤ other
+
+-- the task is there; its regions in order, a copy of its cells, and the scratch that its operations ask for and no more
+pub record IsKept (program : Program) (t : ℕ) (where_at : Phase) (ordered : List Access) (copy scratch : List ℤ) : Type 0 where
+  pub task : TaskDef
+  pub is_task : slice_get program.tasks.items t ≡ Some task
+  pub place : IsPhaseOf task where_at
+  pub ordered_regions : ordered ≡ regions task.accesses.items
+  pub cells : length copy ≡ region_cells task
+  pub room : IsScratchOf ordered task.body.items (length scratch)
+
+-- the part lies in a front of so many cells, or in a back of so many that begins at this place
+abbrev pub FitsBeside : ℕ → ℕ → ℕ → ℕ → ℕ → Type 0
+FitsBeside front back begins at count =
+    (at + count ≤ front) ⊎ ((begins ≤ at) × (at + count ≤ begins + back))
+
+-- these are the part's cells in the whole copy, whatever cells stand between its front and its back
+abbrev pub IsSeenBeside : List ℤ → List ℤ → ℕ → ℕ → ℕ → List ℤ → Type 0
+IsSeenBeside front back begins at count cells =
+    (between : List ℤ) → length front + length between ≡ begins → cells ≡ take count (drop at (front ++ (between ++ back)))
+
 -- the cells of a source in the copy, none where there is no such source
 abbrev pub source_in : List Access → List ℤ → Option Span → List ℤ
 source_in ordered copy None = []
@@ -101,7 +138,8 @@ source_in ordered copy (Some span) = take (span_len span) (drop (place_in ordere
 
 -- a local operation can run on a copy and with a scratch of so many cells
 pub record CanCompute (ordered : List Access) (copy scratch : ℕ) (kind : Kernel) (dst : Span) (left right : Option Span) (value : ℤ) : Type 0 where
-  pub room : span_len dst ≤ scratch
+  pub room : IsRoomFor scratch (place_in ordered dst.array dst.from) (span_len dst) (source_place ordered left) (source_len left)
+      (source_place ordered right) (source_len right)
   pub dst_fits : FitsIn ordered copy dst
   pub left_fits : SourceFits ordered copy left
   pub right_fits : SourceFits ordered copy right

@@ -1,20 +1,22 @@
 -- What follows from the definitions alone.
-use Rattle.std.specs.Prelude.{◌≡◌, ℤ, List, length, take, drop}
+use Rattle.std.specs.Prelude.{◌≡◌, ◌↔◌, ℕ, true, ℤ, List, length, take, drop, slice_get, All}
 use Rattle.rt_base.specs.declared.data.Span.{Span}
+use Rattle.rt_base.specs.declared.data.Access.{Access}
 use Rattle.rt_base.specs.declared.data.TaskDef.{TaskDef}
 use Rattle.rt_base.specs.declared.data.Program.{Program}
-use Rattle.rt_base.specs.Spans.{span_len}
+use Rattle.rt_base.specs.Spans.{span_len, Covers, is_written}
 use Rattle.rt_base.specs.Layout.{address, memory_len}
-use Rattle.rt_base.specs.WellFormed.{WellFormed, IsTask, MayRead}
+use Rattle.rt_base.specs.WellFormed.{WellFormed, IsTask, MayRead, MayWrite, region_cells}
 use Rattle.rt_base.specs.State.{State}
-use Rattle.task_local.specs.Regions.{cells_of_span, loaded}
+use Rattle.task_local.specs.Regions.{cells_of_span, loaded, saved}
 use Rattle.task_local.specs.StandsFor.{Record, StandsFor}
 use Rattle.task_local.specs.Standing.{def, moved_on}
 
--- a record stands for its task as well after its local operations as before them (this project's)
+-- a record stands for its task after its local operations exactly where it does before them (this project's)
 abbrev pub LocalOperationsAreUnseen : Type 0
 LocalOperationsAreUnseen =
-    (program : Program) (held : Record) (state : State) → StandsFor program held state → StandsFor program (moved_on (def held) held.phase held) state
+    (program : Program) (held : Record) (state : State)
+    → StandsFor program held state ↔ StandsFor program (moved_on (def held) held.phase held) state
 
 -- a span of a fresh copy has the cells that it has in the memory, over however many regions it lies (this project's)
 abbrev pub FreshSpansAreOfMemory : Type 0
@@ -23,3 +25,24 @@ FreshSpansAreOfMemory =
     → length memory ≡ memory_len program → MayRead program task span
     → cells_of_span task span (loaded program task memory)
     ≡ take (span_len span) (drop (address program task.rank span.array span.from) memory)
+
+-- a cell of the span has this address, in an array of this rank (this project's)
+abbrev pub IsCellAt : Program → ℕ → Span → ℕ → Type 0
+IsCellAt program rank span at = (cell : ℕ) × Covers span cell × (address program rank span.array cell ≡ at)
+
+-- a span that a task may write, as each region that isn't `in`, has in the memory after its release the cells that it has in the
+-- copy, over however many regions it lies (this project's)
+abbrev pub SavedSpansAreOfCopy : Type 0
+SavedSpansAreOfCopy =
+    (program : Program) (task : TaskDef) (copy memory : List ℤ) (span : Span) → WellFormed program → IsTask program task
+    → length copy ≡ region_cells task → length memory ≡ memory_len program → MayWrite program task span
+    → take (span_len span) (drop (address program task.rank span.array span.from) (saved program task copy memory))
+    ≡ cells_of_span task span copy
+
+-- and a cell of no region that it may write is what it was (this project's)
+abbrev pub OtherCellsStay : Type 0
+OtherCellsStay =
+    (program : Program) (task : TaskDef) (copy memory : List ℤ) (at : ℕ) → WellFormed program → IsTask program task
+    → length copy ≡ region_cells task → length memory ≡ memory_len program
+    → All (λ (access : Access). is_written access.mode ≡ true → ¬ IsCellAt program task.rank access.span at) task.accesses.items
+    → slice_get (saved program task copy memory) at ≡ slice_get memory at

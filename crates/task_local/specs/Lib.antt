@@ -5,4 +5,5 @@ pub mod Packed
 pub mod StandsFor
 pub mod Standing
 pub mod Kept
+pub mod Placed
 pub mod Laws

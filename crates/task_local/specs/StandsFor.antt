@@ -1,11 +1,9 @@
 -- What contracts see of a task's record, and when it stands for its task in a state of the machine.
-use Rattle.std.specs.Prelude.{◌≡◌, ℕ, List, slice_get, sum_by, ℤ, Some}
-use Rattle.rt_base.specs.declared.data.Access.{Access}
+use Rattle.std.specs.Prelude.{◌≡◌, ℕ, List, slice_get, ℤ, Some}
 use Rattle.rt_base.specs.declared.data.Phase.{Phase}
 use Rattle.rt_base.specs.declared.data.Phase.TheVariants as phase
 use Rattle.rt_base.specs.declared.data.TaskDef.{TaskDef}
 use Rattle.rt_base.specs.declared.data.Program.{Program}
-use Rattle.rt_base.specs.Spans.{span_len}
 use Rattle.rt_base.specs.State.{State, Task}
 use Rattle.task_local.specs.Local.{advanced, stop}
 
@@ -15,10 +13,6 @@ pub record Record : Type 0 where
   pub task : ℕ
   pub phase : Phase
   pub copy : List ℤ
-
--- how many cells the task declares
-abbrev pub declared_cells : TaskDef → ℕ
-declared_cells def = sum_by (λ (access : Access). span_len access.span) def.accesses.items
 
 -- the copy and the phase are the task's after the local operations that come next; a waiting task has no copy yet
 abbrev pub StandsAs : TaskDef → Phase → List ℤ → Task → Type 0

@@ -4,11 +4,12 @@ ghost use Rattle.std.specs.Prelude.{◌≡◌, ◌^◌, ◌<◌, ◌≤◌, leng
 ghost use Rattle.rt_base.specs.Spans.{span_len};
 ghost use Rattle.task_local.specs.Regions.{regions};
 ghost use Rattle.task_local.specs.Local.{kernel_value, computed, run_front, stop_at};
-ghost use Rattle.task_local.specs.Kept.{SourceFits, TakesCells, CanRun, FitsSend, source_in, sent_in};
+ghost use Rattle.task_local.specs.Placed.{FitPlaces, IsApart, HasScratch, placed_value};
+ghost use Rattle.task_local.specs.Kept.{TakesCells, CanRun, FitsSend, IsScratchFor, IsScratchOf, sent_in};
 
-use crate::index::{RegionIndex, cells_in, put_cells};
-use crate::standing::cell_count;
-use rt_base::{How, Kernel, Op, Phase, Span, TaskDef};
+use crate::index::{RegionIndex, cells_in};
+use crate::parts::{Part, cells_beside, is_apart_from_sources, part_of_source, part_of_span};
+use rt_base::{How, Kernel, Op, Phase, TaskDef};
 
 // Runs the local operations from this one on, up to the first other operation or the end of the body.
 pub(crate) fn run_from(
@@ -51,26 +52,107 @@ fn run_operation(def: &TaskDef, index: &RegionIndex, copy: &mut [i64], scratch: 
             value,
             step,
         } => {
-            let cells = &mut scratch[..cell_count(*dst)];
-            let from = source(index, copy, *left);
-            let with = source(index, copy, *right);
-            run_kernel(*kernel, cells, from, with, *value, *step);
-            put_cells(index, copy, *dst, cells);
+            let placed = Placed {
+                kernel: *kernel,
+                dst: part_of_span(index, *dst),
+                left: part_of_source(index, *left),
+                right: part_of_source(index, *right),
+                value: *value,
+                step: *step,
+            };
+            run_placed(copy, scratch, &placed);
         }
         Op::Post { .. } => {}
         Op::Await { .. } => {}
     }
 }
 
-// The cells of a source in the copy, none where there is no such source.
-fn source<'c>(index: &RegionIndex, copy: &'c [i64], span: Option<Span>) -> &'c [i64]
-    requires fits { SourceFits index.now (length copy.now) span }
-    ensures { result.now ≡ source_in index.now copy.now span }
+// A local operation, its spans as parts of the copy.
+#[derive(Clone, Copy)]
+pub(crate) struct Placed {
+    pub(crate) kernel: Kernel,
+    pub(crate) dst: Part,
+    pub(crate) left: Part,
+    pub(crate) right: Part,
+    pub(crate) value: i64,
+    pub(crate) step: i64,
+}
+
+// How many cells of scratch are enough for each of these operations, and no more.
+pub(crate) fn longest_scratch(index: &RegionIndex, body: &[Op]) -> usize
+    ensures { IsScratchOf index.now body.now result }
 {
-    match span {
-        Some(span) => cells_in(index, copy, span),
-        None => &[],
+    let mut longest = 0;
+    for op in body {
+        longest = scratch_len(index, op).max(longest);
     }
+    longest
+}
+
+// How many cells of scratch an operation needs: those of a destination that may share cells with a source.
+fn scratch_len(index: &RegionIndex, op: &Op) -> usize
+    ensures { IsScratchFor index.now result op.now }
+{
+    match op {
+        Op::Compute {
+            dst,
+            left,
+            right,
+            ..
+        } => {
+            let dst = part_of_span(index, *dst);
+            let left = part_of_source(index, *left);
+            let right = part_of_source(index, *right);
+            if is_apart_from_sources(dst, left, right) {
+                0
+            } else {
+                dst.count
+            }
+        }
+        Op::Post { .. } => 0,
+        Op::Await { .. } => 0,
+    }
+}
+
+// Runs a kernel. One whose destination lies apart from its sources writes into the copy; another one writes into the scratch.
+pub(crate) fn run_placed(copy: &mut [i64], scratch: &mut [i64], placed: &Placed)
+    requires fits { FitPlaces (length copy.old) placed.now }
+    requires room { HasScratch (length scratch.old) placed.now }
+    ensures { copy.new ≡ placed_value placed.now copy.old }
+{
+    if is_apart_from_sources(placed.dst, placed.left, placed.right) {
+        run_into_copy(copy, placed);
+    } else {
+        run_into_scratch(copy, scratch, placed);
+    }
+}
+
+// Runs a kernel whose destination shares no cell with its sources.
+fn run_into_copy(copy: &mut [i64], placed: &Placed)
+    requires fits { FitPlaces (length copy.old) placed.now }
+    requires apart { IsApart placed.now }
+    ensures { copy.new ≡ placed_value placed.now copy.old }
+{
+    let Part { at, count } = placed.dst;
+    let (front, rest) = copy.split_at_mut(at);
+    let (cells, back) = rest.split_at_mut(count);
+    let from = cells_beside(front, back, at + count, placed.left);
+    let with = cells_beside(front, back, at + count, placed.right);
+    run_kernel(placed.kernel, cells, from, with, placed.value, placed.step);
+}
+
+// Runs a kernel whose destination may share cells with its sources.
+fn run_into_scratch(copy: &mut [i64], scratch: &mut [i64], placed: &Placed)
+    requires fits { FitPlaces (length copy.old) placed.now }
+    requires room { placed.now.dst.count ≤ length scratch.old }
+    ensures { copy.new ≡ placed_value placed.now copy.old }
+{
+    let Part { at, count } = placed.dst;
+    let cells = &mut scratch[..count];
+    let from = &copy[placed.left.at..placed.left.at + placed.left.count];
+    let with = &copy[placed.right.at..placed.right.at + placed.right.count];
+    run_kernel(placed.kernel, cells, from, with, placed.value, placed.step);
+    copy[at..at + count].copy_from_slice(cells);
 }
 
 // Writes what the kernel gives into its destination.

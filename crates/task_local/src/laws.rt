@@ -1,8 +1,8 @@
 //! What follows from the definitions alone.
 
-ghost use Rattle.task_local.specs.Laws.{LocalOperationsAreUnseen, FreshSpansAreOfMemory};
+ghost use Rattle.task_local.specs.Laws.{LocalOperationsAreUnseen, FreshSpansAreOfMemory, SavedSpansAreOfCopy, OtherCellsStay};
 
-/// A record stands for its task as well after its local operations as before them.
+/// A record stands for its task after its local operations exactly where it does before them.
 pub fn local_operations()
     ensures { LocalOperationsAreUnseen }
 {}
@@ -10,4 +10,10 @@ pub fn local_operations()
 /// A span of a fresh copy has the cells that it has in the memory, over however many regions it lies.
 pub fn fresh_spans()
     ensures { FreshSpansAreOfMemory }
+{}
+
+/// A task's release puts back the cells of the spans that it may write, and changes no other cell.
+pub fn saved_spans()
+    ensures written { SavedSpansAreOfCopy }
+    ensures others { OtherCellsStay }
 {}

@@ -5,6 +5,7 @@ mod compute;
 mod index;
 pub mod laws;
 mod memory;
+mod parts;
 mod record;
 mod standing;
 #[cfg(test)]

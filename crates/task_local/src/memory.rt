@@ -1,7 +1,7 @@
 //! The memory of all ranks, as regions are loaded from it and put back.
 
 ghost use Rattle.std.specs.Prelude.{◌≡◌, ◌+◌, ◌^◌, ◌<◌, ◌≤◌, length, All, sum, if◌then◌else◌};
-ghost use Rattle.rt_base.specs.Spans.{is_written};
+ghost use Rattle.rt_base.specs.Spans.{is_written, span_len};
 ghost use Rattle.rt_base.specs.Layout.{address, memory_len};
 ghost use Rattle.task_local.specs.Regions.{loaded_regions, saved_regions, spliced};
 ghost use Rattle.task_local.specs.Kept.{cell_total, HasMet, LiesIn};
@@ -48,21 +48,36 @@ pub(crate) fn save_regions(
     let mut at = 0;
     let mut met = None;
     for access in ordered {
-        let from = address_of(prog, rank, access, &mut met);
         let count = cell_count(access.span);
-        put_back_region(access, from, &copy[at..at + count], memory);
+        put_back_region(prog, rank, access, &mut met, &copy[at..at + count], memory);
         at += count;
     }
 }
 
-// Puts the cells of a region back from this place on, where the region is written.
-fn put_back_region(access: &Access, from: usize, cells: &[i64], memory: &mut [i64])
-    requires { from + length cells.now ≤ length memory.old }
-    ensures { memory.new ≡ (if is_written access.now.mode then spliced from cells.now memory.old else memory.old) }
+// Puts the cells of a region back, where the region is written.
+fn put_back_region(
+    prog: &Program,
+    rank: u16,
+    access: &Access,
+    met: &mut Option<(u16, usize)>,
+    cells: &[i64],
+    memory: &mut [i64],
+)
+    requires lies { LiesIn prog.now rank access.now }
+    requires memory { length memory.old ≡ memory_len prog.now }
+    requires cells { length cells.now ≡ span_len access.now.span }
+    requires met { HasMet prog.now rank met.old }
+    ensures memory { memory.new ≡ (if is_written access.now.mode
+        then spliced (address prog.now rank access.now.span.array access.now.span.from) cells.now memory.old
+        else memory.old) }
+    ensures met { HasMet prog.now rank met.new }
 {
     match access.mode {
         Mode::In => {}
-        Mode::Out | Mode::Inout => memory[from..from + cells.len()].copy_from_slice(cells),
+        Mode::Out | Mode::Inout => {
+            let from = address_of(prog, rank, access, met);
+            memory[from..from + cells.len()].copy_from_slice(cells);
+        }
     }
 }
 
@@ -78,19 +93,21 @@ fn address_of(prog: &Program, rank: u16, access: &Access, met: &mut Option<(u16,
     start + access.span.from as usize
 }
 
-// Where the region's array begins. Regions are by array, so it is mostly the one that was met last.
+// Where the region's array begins. Regions are by array, so the lengths are summed on from the array that was met last.
 fn start_of(prog: &Program, rank: u16, access: &Access, met: Option<(u16, usize)>) -> usize
     requires lies { LiesIn prog.now rank access.now }
     requires met { HasMet prog.now rank met }
     ensures { result ≡ address prog.now rank access.now.span.array 0 }
 {
+    let lens = prog.lens.as_slice();
+    let first = rank as usize * prog.names.len();
+    let place = first + access.span.array as usize;
     if let Some((array, start)) = met
-        && array == access.span.array
+        && array <= access.span.array
     {
-        return start;
+        return start + total_len(&lens[first + array as usize..place]);
     }
-    let place = rank as usize * prog.names.len() + access.span.array as usize;
-    total_len(&prog.lens.as_slice()[..place])
+    total_len(&lens[..place])
 }
 
 // How many cells arrays of these lengths have.

@@ -1,18 +1,17 @@
 //! The record of a task.
 
-ghost use Rattle.std.specs.Prelude.{◌≡◌, ◌≢◌, ◌≤◌, ◌<◌, length, IfOk};
+ghost use Rattle.std.specs.Prelude.{◌≡◌, ◌≤◌, ◌<◌, length, IfOk};
 ghost use Rattle.rt_base.specs.declared.data.Phase.TheVariants as phase;
 ghost use Rattle.rt_base.specs.Spans.{span_len};
 ghost use Rattle.rt_base.specs.Layout.{memory_len};
-ghost use Rattle.rt_base.specs.WellFormed.{WellFormed, IsDeclared};
+ghost use Rattle.rt_base.specs.WellFormed.{WellFormed, IsDeclared, region_cells};
 ghost use Rattle.task_local.specs.Regions.{put, loaded, saved};
-ghost use Rattle.task_local.specs.StandsFor.{declared_cells};
 ghost use Rattle.task_local.specs.Standing.{def, at_phase, moved_on, packed_next, Follows, IsAtCall};
 
-use crate::compute::{run_from, sent_cells};
+use crate::compute::{longest_scratch, run_from, sent_cells};
 use crate::index::{RegionIndex, put_cells};
 use crate::memory::{load_regions, save_regions};
-use crate::standing::{At, at_phase_of, longest_destination, operation, task_def};
+use crate::standing::{At, at_phase_of, operation, task_def};
 use rt_base::{Cells, Phase, Program, Span, TaskNo};
 use std::alloc::{AllocError, Global};
 use std::marker::Model;
@@ -41,7 +40,8 @@ impl Model for TaskRec {
 }
 
 impl TaskRec {
-    /// The record of a task that was not started. Takes all memory that the task's body needs.
+    /// The record of a task that was not started. Takes all memory that the task's body needs. Time grows with the task's
+    /// cells, and with its accesses and operations, times the logarithm of how many accesses it has.
     pub fn make(alloc: Global, prog: &Program, task: TaskNo) -> Result<TaskRec, AllocError>
         requires well_formed { WellFormed prog.now }
         requires task { task.0 < length prog.now.tasks.items }
@@ -52,7 +52,7 @@ impl TaskRec {
         let def = task_def(prog, task);
         let regions = RegionIndex::make(alloc, def.accesses.as_slice())?;
         let copy = vec![in alloc; 0; regions.cell_total()]?;
-        let scratch = vec![in alloc; 0; longest_destination(def.body.as_slice())]?;
+        let scratch = vec![in alloc; 0; longest_scratch(&regions, def.body.as_slice())]?;
         Ok(TaskRec {
             program: Snapshot::of(prog),
             task,
@@ -75,13 +75,14 @@ impl TaskRec {
         requires same { prog.now ≡ self.now.program }
         ensures at { result ≡ at_phase (def self.now) self.now.phase }
 
-        // The copy has each declared cell once.
-        ensures cells { length self.now.copy ≡ declared_cells (def self.now) }
+        // The copy has as many cells as the task declares.
+        ensures cells { length self.now.copy ≡ region_cells (def self.now) }
     {
         at_phase_of(task_def(prog, self.task), self.phase)
     }
 
-    /// Runs the local operations that come next, up to the first other operation or the end of the body.
+    /// Runs the local operations that come next, up to the first other operation or the end of the body. Time grows with the
+    /// cells that they read and write, and for each operation with the logarithm of how many accesses the task has.
     pub fn run_local(&mut self, prog: &Program)
         requires well_formed { WellFormed prog.now }
         requires same { prog.now ≡ self.old.program }
@@ -104,11 +105,12 @@ impl TaskRec {
         }
     }
 
-    /// Copies the task's cells in from the cells of all arrays of all ranks.
+    /// Copies the task's cells in from the cells of all arrays of all ranks. Time grows with the cells and the accesses of the
+    /// task, and with the arrays before the last that it names, of this rank and the ranks before: their lengths are summed
+    /// once.
     pub fn load(&mut self, prog: &Program, memory: &[i64])
         requires well_formed { WellFormed prog.now }
         requires same { prog.now ≡ self.old.program }
-        requires waiting { self.old.phase ≡ phase.Waiting }
         requires memory { length memory.now ≡ memory_len prog.now }
         ensures { self.new ≡ record self.old { copy = loaded prog.now (def self.old) memory.now } }
     {
@@ -122,11 +124,11 @@ impl TaskRec {
         );
     }
 
-    /// Puts the task's `out` and `inout` cells back into the cells of all arrays of all ranks.
+    /// Puts the task's `out` and `inout` cells back into the cells of all arrays of all ranks. Time grows with those cells and
+    /// the accesses of the task, and with the arrays before the last that it writes, as in `load`.
     pub fn save(&self, prog: &Program, memory: &mut [i64])
         requires well_formed { WellFormed prog.now }
         requires same { prog.now ≡ self.now.program }
-        requires started { self.now.phase ≢ phase.Waiting }
         requires memory { length memory.old ≡ memory_len prog.now }
         ensures { memory.new ≡ saved prog.now (def self.now) self.now.copy memory.old }
     {
@@ -144,11 +146,11 @@ impl TaskRec {
         self.phase = phase;
     }
 
-    /// Stores cells at the front of a span of the task's cells.
+    /// Stores cells at the front of a span of the task's cells. Time grows with the cells that are stored, and with the
+    /// logarithm of how many accesses the task has.
     pub fn store(&mut self, prog: &Program, span: Span, cells: &[i64])
         requires well_formed { WellFormed prog.now }
         requires same { prog.now ≡ self.old.program }
-        requires started { self.old.phase ≢ phase.Waiting }
         requires declared { IsDeclared (def self.old).accesses.items span }
         requires fits { length cells.now ≤ span_len span }
         ensures { self.new ≡ record self.old { copy = put (def self.old) span cells.now self.old.copy } }
@@ -157,7 +159,8 @@ impl TaskRec {
         put_cells(&self.regions, &mut self.copy, span, cells);
     }
 
-    /// The cells that the call that is next sends, none where it is no send.
+    /// The cells that the call that is next sends, none where it is no send. Takes memory for them. Time grows with them, and
+    /// with the logarithm of how many accesses the task has.
     pub fn pack(&self, alloc: Global, prog: &Program) -> Result<Cells, AllocError>
         requires well_formed { WellFormed prog.now }
         requires same { prog.now ≡ self.now.program }

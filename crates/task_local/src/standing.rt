@@ -2,7 +2,7 @@
 
 ghost use Rattle.std.specs.Prelude.{◌≡◌, ◌<◌, length, slice_get, Some};
 ghost use Rattle.rt_base.specs.Spans.{span_len};
-ghost use Rattle.task_local.specs.Kept.{HasRoomFor, IsPhaseOf, destination_len};
+ghost use Rattle.task_local.specs.Kept.{IsPhaseOf};
 ghost use Rattle.task_local.specs.Standing.{at_operation, at_phase};
 
 use rt_base::{Op, Phase, Program, Span, TaskDef, TaskNo};
@@ -73,26 +73,4 @@ pub(crate) fn cell_count(span: Span) -> usize
     ensures { result ≡ span_len span }
 {
     span.to.saturating_sub(span.from) as usize
-}
-
-// How many cells the longest destination of these operations has.
-pub(crate) fn longest_destination(body: &[Op]) -> usize
-    ensures { HasRoomFor body.now result }
-{
-    let mut longest = 0;
-    for op in body {
-        longest = destination(op).max(longest);
-    }
-    longest
-}
-
-// How many cells a local operation writes.
-fn destination(op: &Op) -> usize
-    ensures { result ≡ destination_len op.now }
-{
-    match op {
-        Op::Compute { dst, .. } => cell_count(*dst),
-        Op::Post { .. } => 0,
-        Op::Await { .. } => 0,
-    }
 }

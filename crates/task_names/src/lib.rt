@@ -15,3 +15,6 @@ pub use evaluation::value;
 pub use meaning::Meaning;
 pub use operators::{computed, negated};
 pub use scope::Scope;
+
+#[cfg(test)]
+mod tests;

@@ -3,3 +3,4 @@ pub mod Reduces
 pub mod Complete
 pub mod Depths
 pub mod Sound
+pub mod Written

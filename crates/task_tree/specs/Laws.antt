@@ -6,6 +6,7 @@ use Rattle.task_tree.specs.declared.token.Token.{Token}
 use Rattle.task_tree.specs.Term.{Term}
 use Rattle.task_tree.specs.Grammar.{Is, ends}
 use Rattle.task_tree.specs.Expressions.{expr_at}
+use Rattle.task_tree.specs.Blocks.{Block, written}
 
 -- an expression as it is spelled, before tokens that do not go on with it, is read whole
 abbrev pub SpelledIsRead : Type 0
@@ -32,3 +33,7 @@ ReadIsSpelled = (tokens : List Token) → Finds (expr_at tokens) tokens
 -- tokens are an expression in at most one way, and of one depth
 abbrev pub OneExpression : Type 0
 OneExpression = (c d : ℕ) (tokens : List Token) (a b : Term) → Is 0 c tokens a → Is 0 d tokens b → (a ≡ b) × (c ≡ d)
+
+-- statements are written by one text in blocks at most
+abbrev pub OneTextInBlocks : Type 0
+OneTextInBlocks = (one other : Block) → written one ≡ written other → one ≡ other

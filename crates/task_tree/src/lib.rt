@@ -17,7 +17,7 @@ mod tree;
 
 pub use expr::{Expr, Node};
 pub use key::Key;
-pub use laws::{one_expression, read_is_spelled, spelled_is_read};
+pub use laws::{one_expression, one_text_in_blocks, read_is_spelled, spelled_is_read};
 pub use operator::BinOp;
 pub use reading::expr_at;
 pub use refusal::LineRefusal;

@@ -11,8 +11,7 @@ use Rattle.rt_base.specs.declared.data.Program.{Program}
 use Rattle.rt_base.specs.Spans.{span_len, Overlaps}
 use Rattle.rt_base.specs.Operations.{postings}
 use Rattle.rt_base.specs.InUse.{left_after}
-use Rattle.rt_base.specs.WellFormed.{IsSpan, IsOperation, Follows, InOrder, region_cells, over_operations, names_of, cells_sent}
-use Rattle.rt_base.specs.Whole.{IsWholeTask}
+use Rattle.rt_base.specs.WellFormed.{IsSpan, IsOperation, Follows, InOrder, region_cells, over_operations, names_of, cells_sent, IsTask}
 use Rattle.task_unroll.specs.Unrolling.{at}
 use Rattle.task_unroll.specs.States.{Counts, State}
 use Rattle.task_unroll.specs.Acts.{listed, none_left, task_ended}
@@ -66,7 +65,7 @@ turn_ended line s turn = record {
   past = All-push (λ (task : TaskDef). (task.rank ≤ s.rank) × (task.rank ≡ s.rank → task.epoch ≤ s.epoch)) s.tasks (ended line s) turn.past (omega arith, λ same. omega arith);
 }
 
-is_task : (g : Stage) (line : ℕ) (s : State) (p : Program) → left_after 0 s.body ≡ [] → IsSound g s → Continues g.prior s.rank s.size s.comms s.lens p → IsWholeTask p (ended line s)
+is_task : (g : Stage) (line : ℕ) (s : State) (p : Program) → left_after 0 s.body ≡ [] → IsSound g s → Continues g.prior s.rank s.size s.comms s.lens p → IsTask p (ended line s)
 is_task g line s p none sound c =
     let below = sound.below in
     let ranks = c.ranks in
@@ -115,7 +114,7 @@ task_ended_sound g line s inside = bind (IsMain (closing g)) (none_left s.lines 
         };
         counts = counts_end line s (subst (λ (n : ℕ). HasCounts n s.counts s.tasks s.accesses s.body) inside.one sound.counts);
         turn = turn_ended line s sound.turn;
-        tasks = λ p c old. All-push (IsWholeTask p) s.tasks (ended line s) (sound.tasks p c old) (is_task g line s p none sound c);
+        tasks = λ p c old. All-push (IsTask p) s.tasks (ended line s) (sound.tasks p c old) (is_task g line s p none sound c);
         begun = begun_none g.prior s.rank s.size s.comms s.lens;
         names = sound.before;
         before = sound.before;

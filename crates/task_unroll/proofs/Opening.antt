@@ -16,8 +16,7 @@ use Rattle.rt_base.specs.declared.data.Program.{Program}
 use Rattle.rt_base.specs.Spans.{span_len, Overlaps}
 use Rattle.rt_base.specs.Touched.{shares, shares_any}
 use Rattle.rt_base.specs.InUse.{left_after}
-use Rattle.rt_base.specs.WellFormed.{IsSpan, IsOperation, InOrder, region_cells, over_operations, names_of, cells_sent}
-use Rattle.rt_base.specs.Whole.{IsWholeTask}
+use Rattle.rt_base.specs.WellFormed.{IsSpan, IsOperation, InOrder, region_cells, over_operations, names_of, cells_sent, IsTask}
 use Rattle.task_tree.specs.declared.tree.SpanText.{SpanText}
 use Rattle.task_unroll.specs.Unrolling.{at}
 use Rattle.task_unroll.specs.States.{Counts, State}

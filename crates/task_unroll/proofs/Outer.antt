@@ -12,7 +12,7 @@ use Rattle.rt_base.specs.declared.data.Access.{Access}
 use Rattle.rt_base.specs.declared.data.Op.{Op}
 use Rattle.rt_base.specs.declared.data.TaskDef.{TaskDef}
 use Rattle.rt_base.specs.declared.data.Program.{Program}
-use Rattle.rt_base.specs.Whole.{IsWholeTask}
+use Rattle.rt_base.specs.WellFormed.{IsTask}
 use Rattle.task_tree.specs.Term.{Term}
 use Rattle.task_names.specs.declared.meaning.Meaning.{Meaning}
 use Rattle.task_names.specs.declared.meaning.Meaning.TheVariants as meaning

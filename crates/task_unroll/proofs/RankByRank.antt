@@ -9,7 +9,7 @@ use Rattle.rt_base.specs.declared.data.Op.{Op}
 use Rattle.rt_base.specs.declared.data.TaskDef.{TaskDef}
 use Rattle.rt_base.specs.declared.data.Program.{Program}
 use Rattle.rt_base.specs.Layout.{array_count}
-use Rattle.rt_base.specs.Whole.{IsWholeTask}
+use Rattle.rt_base.specs.WellFormed.{IsTask}
 use Rattle.task_tree.specs.Blocks.{Block, Place as place, Nested}
 use Rattle.task_names.specs.declared.meaning.Meaning.{Meaning}
 use Rattle.task_unroll.specs.States.{Counts, State, begun, nothing_counted}
@@ -76,10 +76,10 @@ pub record AreSound (whole : Block) (size rank : ℕ) (r : Ranks) : Type 0 where
   pub main : IsMain (stage_after whole (fresh prior old rank size)) r.last
   pub laid : r.lens ≡ prior ++ r.last.lens
   pub place : length prior ≡ rank * arrays_after whole 0
-  pub before : (p : Program) → Fits whole size prior p → All (IsWholeTask p) old
+  pub before : (p : Program) → Fits whole size prior p → All (IsTask p) old
 
 -- the tasks so far are right
-pub tasks_so_far : (whole : Block) (size rank : ℕ) (r : Ranks) (p : Program) → AreSound whole size rank r → Fits whole size r.lens p → All (IsWholeTask p) r.last.tasks
+pub tasks_so_far : (whole : Block) (size rank : ℕ) (r : Ranks) (p : Program) → AreSound whole size rank r → Fits whole size r.lens p → All (IsTask p) r.last.tasks
 tasks_so_far whole size rank r p are fits =
     let sound = are.main.sound in
     let comm_count = sound.arrays.comm_count in
@@ -132,7 +132,7 @@ first_sound whole depth size nested some =
       main = main;
       laid = refl;
       place = omega arith;
-      before = λ p fits. All-nil (IsWholeTask p);
+      before = λ p fits. All-nil (IsTask p);
     })
 
 plus_one : (n : ℕ) → suc n ≡ n + 1

@@ -9,8 +9,7 @@ use Rattle.rt_base.specs.Spans.{span_len, Overlaps}
 use Rattle.rt_base.specs.Layout.{array_count}
 use Rattle.rt_base.specs.Operations.{postings}
 use Rattle.rt_base.specs.InUse.{left_after}
-use Rattle.rt_base.specs.WellFormed.{IsSpan, IsOperation, Follows, InOrder, region_cells, over_operations, names_of, cells_sent}
-use Rattle.rt_base.specs.Whole.{IsWholeTask}
+use Rattle.rt_base.specs.WellFormed.{IsSpan, IsOperation, Follows, InOrder, region_cells, over_operations, names_of, cells_sent, IsTask}
 use Rattle.task_names.specs.declared.meaning.Meaning.{Meaning}
 use Rattle.task_names.specs.declared.meaning.Meaning.TheVariants as meaning
 use Rattle.task_names.specs.Scopes.{Names}
@@ -71,7 +70,7 @@ pub record InTurn (rank epoch : ℕ) (tasks : List TaskDef) : Type 0 where
   pub past : All (λ (task : TaskDef). (task.rank ≤ rank) × (task.rank ≡ rank → task.epoch ≤ epoch)) tasks
 
 abbrev pub AreTasks : Stage → ℕ → ℕ → ℕ → List ℕ → List TaskDef → Type 0
-AreTasks g rank size comms lens tasks = (p : Program) → Continues g.prior rank size comms lens p → All (IsWholeTask p) g.old → All (IsWholeTask p) tasks
+AreTasks g rank size comms lens tasks = (p : Program) → Continues g.prior rank size comms lens p → All (IsTask p) g.old → All (IsTask p) tasks
 
 -- the open task, as far as it has come
 pub record IsBegun (prior : List ℕ) (rank size comms : ℕ) (lens : List ℕ) (accesses : List Access) (body : List Op) : Type 0 where

@@ -9,7 +9,7 @@ use Rattle.rt_base.specs.declared.data.Access.{Access}
 use Rattle.rt_base.specs.declared.data.Op.{Op}
 use Rattle.rt_base.specs.declared.data.Program.{Program}
 use Rattle.rt_base.specs.Pieces.{pieces}
-use Rattle.rt_base.specs.Whole.{IsWhole}
+use Rattle.rt_base.specs.WellFormed.{WellFormed}
 use Rattle.task_tree.specs.Blocks.{Block, Place as place, Nested}
 use Rattle.task_unroll.specs.Ranks.{Ranks, first_rank, more_ranks, program_of, program}
 use Rattle.task_unroll.specs.Laws.{UnrolledIsWellFormed}
@@ -19,7 +19,7 @@ use Rattle.task_unroll.proofs.Sound.{HasCounts}
 use Rattle.task_unroll.proofs.Unrolled.{arrays_after}
 use Rattle.task_unroll.proofs.RankByRank.{AreSound, tasks_so_far, first_sound, more_sound}
 
-well_formed : (whole : Block) (more eager : ℕ) (r : Ranks) → suc more ≤ 64 → eager ≤ 16777216 → pieces r.last.tasks ≤ 16777216 → AreSound whole (suc more) more r → IsWhole (program_of eager r)
+well_formed : (whole : Block) (more eager : ℕ) (r : Ranks) → suc more ≤ 64 → eager ≤ 16777216 → pieces r.last.tasks ≤ 16777216 → AreSound whole (suc more) more r → WellFormed (program_of eager r)
 well_formed whole more eager r few small few_pieces are =
     let main = are.main in
     let sound = main.sound in
@@ -64,12 +64,12 @@ well_formed whole more eager r few small few_pieces are =
       tasks = tasks_so_far whole (suc more) more r (program_of eager r) are (record { ranks = size; comms = comm_count; count = count; after = []; laid = sym (append-nil r.lens) });
     }
 
-program_sound : (whole : Block) (depth more eager : ℕ) → Nested depth place.Top whole → suc more ≤ 64 → eager ≤ 16777216 → Holds IsWhole (program whole more eager)
+program_sound : (whole : Block) (depth more eager : ℕ) → Nested depth place.Top whole → suc more ≤ 64 → eager ≤ 16777216 → Holds WellFormed (program whole more eager)
 unfolding program
 program_sound whole depth more eager nested few small =
-    bind_by (AreSound whole (suc more) 0) IsWhole (first_rank whole (suc more)) _ (first_sound whole depth (suc more) nested (omega arith)) (λ first begun.
-    bind_by (AreSound whole (suc more) more) IsWhole (more_ranks whole more first) _ (all_ranks whole depth more first nested begun) (λ all done.
-    bind_kept IsWhole limit.Pieces (pieces all.last.tasks) _ (λ few_pieces.
+    bind_by (AreSound whole (suc more) 0) WellFormed (first_rank whole (suc more)) _ (first_sound whole depth (suc more) nested (omega arith)) (λ first begun.
+    bind_by (AreSound whole (suc more) more) WellFormed (more_ranks whole more first) _ (all_ranks whole depth more first nested begun) (λ all done.
+    bind_kept WellFormed limit.Pieces (pieces all.last.tasks) _ (λ few_pieces.
     well_formed whole more eager all few small few_pieces done)))
   where
     from_none : (n : ℕ) → 0 + n ≡ n
@@ -81,4 +81,4 @@ program_sound whole depth more eager nested few small =
 
 -- every program that unrolling gives
 pub all_well_formed : UnrolledIsWellFormed
-all_well_formed whole depth more eager result nested few small is = holds_of IsWhole (program whole more eager) result (program_sound whole depth more eager nested few small) is
+all_well_formed whole depth more eager result nested few small is = holds_of WellFormed (program whole more eager) result (program_sound whole depth more eager nested few small) is

@@ -1,4 +1,4 @@
--- What is tested of one statement, in this order (this project's). A later stage of the language adds its lines here.
+-- What is tested of one statement, in this order (this project's). A statement that the language gains adds its lines here.
 use Rattle.std.specs.Prelude.{ℕ, ◌+◌, ◌*◌, ℤ, pos, negsuc, Bool, true, false, not, ◌||◌, nat_eq, nat_lt, List, [], ◌∷◌, ◌++◌, length, Option, Some, None, Result, Ok, Err, ⊤, if◌then◌else◌}
 use Rattle.std.specs.List.{list_any, list_all}
 use Rattle.std.specs.Str.{bytes_eq}

@@ -1,7 +1,7 @@
 -- What follows from the definition of unrolling.
 use Rattle.std.specs.Prelude.{◌≡◌, ℕ, suc, ◌≤◌, Ok}
 use Rattle.rt_base.specs.declared.data.Program.{Program}
-use Rattle.rt_base.specs.Whole.{IsWhole}
+use Rattle.rt_base.specs.WellFormed.{WellFormed}
 use Rattle.task_tree.specs.Blocks.{Block, Nested, Place as place}
 use Rattle.task_unroll.specs.Ranks.{program}
 
@@ -10,4 +10,4 @@ use Rattle.task_unroll.specs.Ranks.{program}
 abbrev pub UnrolledIsWellFormed : Type 0
 UnrolledIsWellFormed =
     (whole : Block) (depth more eager : ℕ) (result : Program) → Nested depth place.Top whole → suc more ≤ 64 → eager ≤ 16777216
-    → program whole more eager ≡ Ok result → IsWhole result
+    → program whole more eager ≡ Ok result → WellFormed result

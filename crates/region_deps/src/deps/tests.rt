@@ -1,4 +1,4 @@
-//! Small programs, and which of their tasks may start when: a worked one, and random ones against the look at all tasks.
+//! Small programs, and which of their tasks may start when: two worked ones, and random ones against the look at all tasks.
 
 mod orderly;
 mod random;
@@ -85,6 +85,34 @@ fn orderly_program(alloc: Global, tasks: Vec<TaskDef>) -> Option<Program>
     Some(program(alloc, tasks))
 }
 
+// Whether just these tasks may start now, of those that were not handed out.
+fn hands_out(deps: &mut Deps, startable: &[u32]) -> bool {
+    for _ in 0..startable.len() {
+        match deps.next_startable() {
+            Some(task) if startable.contains(&task.0) => {}
+            _ => return false,
+        }
+    }
+    deps.next_startable().is_none()
+}
+
+// The first row after whose release other tasks may start than it names.
+fn first_wrong(deps: &mut Deps, rows: &[(Option<u32>, &[u32])]) -> Option<usize> {
+    for row in 0..rows.len() {
+        let (gone, startable) = rows[row];
+        if let Some(task) = gone {
+            if !deps.is_held(task as usize) {
+                return Some(row);
+            }
+            deps.release(TaskNo(task));
+        }
+        if !hands_out(deps, startable) {
+            return Some(row);
+        }
+    }
+    None
+}
+
 #[test]
 fn a_task_starts_once_all_that_precede_it_are_released(rt: HostRuntime) -> Result<(), Fail> {
     let alloc = rt.alloc();
@@ -113,20 +141,45 @@ fn a_task_starts_once_all_that_precede_it_are_released(rt: HostRuntime) -> Resul
         (Some(3), &[5]),
         (Some(5), &[]),
     ];
-    for (gone, startable) in rows {
-        if let Some(task) = gone {
-            assert!(rt; deps.is_held(task as usize), "held {task}");
-            deps.release(TaskNo(task));
-        }
-        for _ in 0..startable.len() {
-            let next = deps.next_startable();
-            assert!(rt;
-                matches!(next, Some(task) if startable.contains(&task.0)),
-                "after {gone:?}"
-            );
-        }
-        assert!(rt; deps.next_startable().is_none(), "no more after {gone:?}");
-    }
+    assert_eq!(rt; first_wrong(&mut deps, &rows), None);
+    Ok(())
+}
+
+#[test]
+fn regions_that_cross_or_nest_and_empty_epochs(rt: HostRuntime) -> Result<(), Fail> {
+    let alloc = rt.alloc();
+    let mut tasks = Vec::new(alloc);
+
+    // Each of the first three crosses the next, and 2 also crosses 4. 3 nests in 2, and 5 touches 4.
+    tasks.push(task(alloc, 0, 0, &[(Mode::Out, 0, 3)])?)?;
+    tasks.push(task(alloc, 0, 0, &[(Mode::In, 2, 5)])?)?;
+    tasks.push(task(alloc, 0, 0, &[(Mode::Out, 4, 8)])?)?;
+    tasks.push(task(alloc, 0, 0, &[(Mode::Inout, 5, 6)])?)?;
+    tasks.push(task(alloc, 0, 0, &[(Mode::In, 6, 10)])?)?;
+    tasks.push(task(alloc, 0, 0, &[(Mode::Out, 10, 12)])?)?;
+
+    // Two taskwaits in a row, then three; and two before a rank's first task.
+    tasks.push(task(alloc, 0, 2, &[(Mode::Out, 20, 21)])?)?;
+    tasks.push(task(alloc, 0, 5, &[(Mode::In, 30, 31)])?)?;
+    tasks.push(task(alloc, 1, 2, &[(Mode::Out, 0, 3)])?)?;
+    let Some(program) = orderly_program(alloc, tasks) else {
+        assert!(rt; false, "in order");
+        return Ok(());
+    };
+    let mut deps = Deps::of_tasks(alloc, &program)?;
+    let rows: [(Option<u32>, &[u32]); 10] = [
+        (None, &[0, 5, 8]),
+        (Some(5), &[]),
+        (Some(0), &[1]),
+        (Some(8), &[]),
+        (Some(1), &[2]),
+        (Some(2), &[3, 4]),
+        (Some(4), &[]),
+        (Some(3), &[6]),
+        (Some(6), &[7]),
+        (Some(7), &[]),
+    ];
+    assert_eq!(rt; first_wrong(&mut deps, &rows), None);
     Ok(())
 }
 

@@ -1,4 +1,4 @@
-use Rattle.std.proofs.Common.{sym, ◌≡◌, ◌∙◌}
+use Rattle.std.proofs.Common.{sym}
 use Rattle.cell_spans.specs.Line.{is_in}
 use Rattle.cell_spans.specs.Covering.{is_open}
 use Rattle.cell_spans.proofs.CoveringLemmas.{no_place, no_open_place, no_interval, agrees_empty, agrees_after, open_if_written, open_if_read}

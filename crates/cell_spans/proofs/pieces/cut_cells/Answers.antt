@@ -1,5 +1,4 @@
-use Rattle.std.proofs.Common.{◌≡◌, ◌∙◌, ap, nat_lt, count_by, arith}
-use Rattle.cell_spans.specs.Cuts.{spot}
+use Rattle.std.proofs.Common.{ap, nat_lt, count_by, arith}
 use Rattle.cell_spans.proofs.CutLemmas.{rises_ascends, cells_counted}
 use Rattle.cell_spans.proofs.pieces.cut_cells.Goals as goal
 

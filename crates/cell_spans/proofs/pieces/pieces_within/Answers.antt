@@ -1,4 +1,3 @@
-use Rattle.std.proofs.Common.{◌≡◌, ◌∙◌, ap, sym, arith}
 use Rattle.cell_spans.proofs.CutLemmas.{pieces_are, all_within, too_many}
 use Rattle.cell_spans.proofs.pieces.pieces_within.Goals as goal
 

@@ -1,12 +1,5 @@
--- No task may move where none was found that may.
-use Rattle.std.proofs.Common.{arith}
-use Rattle.core_book.specs.Legal.{final}
-use Rattle.core_book.proofs.Questions.{quiet_of_all, none_before_more}
+-- Where the book is quiet no task may move.
 use Rattle.core_book.proofs.plain.next_task.Goals as goal
 
-pub loop-t-preserved : goal.loop-t-preserved
-loop-t-preserved c =
-    none_before_more c.args.prog.now (final c.args.prog.now c.args.book.now.history) c.loop-t.t c.loop-t.invariant (λ may. absurd (cc (c.can_move.ensures.1 may, c.if-can_move.false)))
-
-pub returns-clause-none : goal.returns-clause-none
-returns-clause-none c = quiet_of_all c.args.prog.now (final c.args.prog.now c.args.book.now.history) c.loop-t.t (omega arith) c.loop-t.invariant
+pub returns-then-quiet-clause-none : goal.returns-then-quiet-clause-none
+returns-then-quiet-clause-none c = c.quiet.ensures.0 c.if-quiet.true

@@ -1,7 +1,10 @@
-use Rattle.core_book.specs.Legal.{final}
-use Rattle.core_book.proofs.Questions.{NoneBefore}
+use Rattle.std.specs.Prelude.{⊤}
 use Rattle.core_book.proofs.plain.next_task.Given as goal
 
--- none of the tasks so far may move
-abbrev pub invariant-loop-t : goal.invariant-loop-t
-invariant-loop-t l = NoneBefore l.prog (final l.prog l.book.history) l.t
+-- any tasks may stand in the list
+abbrev pub invariant-loop-task : goal.invariant-loop-task
+invariant-loop-task l = ⊤
+
+-- each turn of the loop takes one from the list
+abbrev pub decreases-loop-task : goal.decreases-loop-task
+decreases-loop-task l = goal.left-loop-task l

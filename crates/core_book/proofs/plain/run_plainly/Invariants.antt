@@ -2,9 +2,9 @@ use Rattle.core_book.specs.Turns.{IsRunning, left}
 use Rattle.core_book.proofs.plain.run_plainly.Given as goal
 
 -- the records of all tasks are in line with the book
-abbrev pub invariant-loop-recs : goal.invariant-loop-recs
-invariant-loop-recs l = IsRunning l.prog l.book l.recs.items
+abbrev pub invariant-loop-again : goal.invariant-loop-again
+invariant-loop-again l = IsRunning l.prog l.book l.recs.items
 
 -- each turn but the last makes a move
-abbrev pub decreases-loop-recs : goal.decreases-loop-recs
-decreases-loop-recs l = left l.book
+abbrev pub decreases-loop-again : goal.decreases-loop-again
+decreases-loop-again l = left l.book

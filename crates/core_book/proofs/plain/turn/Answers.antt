@@ -43,8 +43,8 @@ start-requires-clause-handed c =
     let own = line_here p old c.args.recs.now t c.index-recs-task.result c.requires.same c.requires.in_line (ready_exists old t c.in-Some.ensures.startable) in
     ready_handed p old c.ready.new.self t (get_or c.args.recs.now t c.index-recs-task.result) own c.in-Some.ensures.handed c.in-Some.ensures.startable
 
-pub returns-in-Some : goal.returns-in-Some
-returns-in-Some c =
+pub returns-in_ok-push-in-Some : goal.returns-in_ok-push-in-Some
+returns-in_ok-push-in-Some c =
     goes_on_ready c.args.prog.now c.args.book.now c.ready.new.self c.start.new.self c.args.recs.now c.in-Some.task.0 c.index-recs-task.result c.start.new.rec c.requires.same c.requires.plain c.requires.in_line
     c.in-Some.ensures.startable c.in-Some.ensures.handed c.start.ensures
 

@@ -8,6 +8,7 @@ use Rattle.rt_base.specs.Matching.{same_request}
 use Rattle.std.specs.List.{list_any}
 use Rattle.std.specs.Prelude.{◌==◌, ◌&&◌}
 use Rattle.core_book.proofs.Questions.{at_place, awaited_among, none_among_past, one_among}
+use Rattle.core_book.proofs.Numbers.{number_some, last_number, posting_number}
 use Rattle.core_book.proofs.posting.is_awaited_in.Goals as goal
 
 pub returns-then-k-len : goal.returns-then-k-len
@@ -20,14 +21,26 @@ returns-in-Compute c =
     awaited_among c.args.def.now c.args.k x c.args.req _ (at_place c.args.def.now.body.items c.args.k c.index-as_slice-k.result x (omega arith)
     (c.index-as_slice-k.is ∙ ap (λ (ops : List Op). get_or ops c.args.k c.index-as_slice-k.result) c.as_slice.ensures) i.is) refl
 
+pub last-requires : goal.last-requires
+last-requires c =
+    let i = c.in-Post in
+    let x : Op = op.Post i.how i.span i.peer i.tag i.comm i.status in
+    number_some (nth_at c.args.def.now c.args.k) c.args.req.task.0 c.args.posted.now
+    (posting_number c.args.def.now c.args.k c.args.req.task.0 i.how i.span i.peer i.tag i.comm i.status c.args.posted.now c.requires
+    (at_place c.args.def.now.body.items c.args.k c.index-as_slice-k.result x (omega arith)
+    (c.index-as_slice-k.is ∙ ap (λ (ops : List Op). get_or ops c.args.k c.index-as_slice-k.result) c.as_slice.ensures) i.is))
+
 pub returns-then-blocks : goal.returns-then-blocks
 returns-then-blocks c =
     let i = c.in-Post in
     let x : Op = op.Post i.how i.span i.peer i.tag i.comm i.status in
-    awaited_among c.args.def.now c.args.k x c.args.req _ (at_place c.args.def.now.body.items c.args.k c.index-as_slice-k.result x (omega arith)
-    (c.index-as_slice-k.is ∙ ap (λ (ops : List Op). get_or ops c.args.k c.index-as_slice-k.result) c.as_slice.ensures) i.is)
+    let here = at_place c.args.def.now.body.items c.args.k c.index-as_slice-k.result x (omega arith)
+    (c.index-as_slice-k.is ∙ ap (λ (ops : List Op). get_or ops c.args.k c.index-as_slice-k.result) c.as_slice.ensures) i.is in
+    let last = last_number (nth_at c.args.def.now c.args.k) c.args.req.task.0 c.last.result c.args.posted.now
+    (posting_number c.args.def.now c.args.k c.args.req.task.0 i.how i.span i.peer i.tag i.comm i.status c.args.posted.now c.requires here) c.last.ensures in
+    awaited_among c.args.def.now c.args.k x c.args.req _ here
     (one_among c.args.req (nth_at c.args.def.now c.args.k) (blocks i.how) _
-    (ap (λ n. n == c.args.req.nth) c.nth_at.ensures ∙ sym (ap (λ b. b && (nth_at c.args.def.now c.args.k == c.args.req.nth)) (sym c.blocks-in-Post.ensures ∙ c.if-blocks.true))))
+    (ap (λ n. n == c.args.req.nth) last ∙ sym (ap (λ b. b && (nth_at c.args.def.now c.args.k == c.args.req.nth)) (sym c.blocks-in-Post.ensures ∙ c.if-blocks.true))))
 
 pub returns-else-blocks : goal.returns-else-blocks
 returns-else-blocks c =

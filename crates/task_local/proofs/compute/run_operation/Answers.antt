@@ -1,16 +1,28 @@
-use Rattle.std.proofs.Common.{◌≡◌, ◌≤◌, length, subst, sym, length-take, rules, arith}
+use Rattle.std.proofs.Common.{◌≡◌, List, ℤ, subst, sym, ap, ◌∙◌, refl, to_z, of_z, w64, rules}
 use Rattle.rt_base.specs.declared.data.Op.{Op}
-use Rattle.rt_base.specs.Spans.{span_len}
-use Rattle.task_local.specs.Local.{computed}
-use Rattle.task_local.specs.Kept.{CanRun}
+use Rattle.task_local.specs.Regions.{spliced}
+use Rattle.task_local.specs.Local.{computed, kernel_value}
+use Rattle.task_local.specs.Placed.{cells_at}
+use Rattle.task_local.proofs.Beside.{part_is_source}
 use Rattle.task_local.proofs.Kernels.{computed_is}
 use Rattle.task_local.proofs.compute.run_operation.Goals as goal
 
 pub returns-in-Compute : goal.returns-in-Compute
 returns-in-Compute c =
-    let can = subst (λ (o : Op). CanRun c.args.index.now (length c.args.copy.now) (length c.args.scratch.now) o) c.in-Compute.is c.requires.can in
-    let room : span_len c.in-Compute.dst ≤ length c.args.scratch.now = can.room in
-    subst (λ (o : Op). c.put_cells.new.copy ≡ computed c.args.def.now o c.args.copy.now) (sym c.in-Compute.is)
-    (computed_is c.args.def.now c.args.index.now c.args.copy.now c.source-from.result.now c.source-with.result.now c.run_kernel.new.dst c.put_cells.new.copy
-    _ c.in-Compute.kernel c.in-Compute.dst c.in-Compute.left c.in-Compute.right c.in-Compute.value c.in-Compute.step _ _
-    c.requires.regions (search rules) (search rules) (omega (arith, length-take c.cell_count.result c.args.scratch.now, c.cell_count.ensures)) c.source-from.ensures c.source-with.ensures c.run_kernel.ensures c.put_cells.ensures)
+    let ordered = c.args.index.now in
+    let copy = c.args.copy.now in
+    let here = c.in-Compute in
+    let dst = c.part_of_span in
+    let left = c.part_of_source in
+    let right = c.part_of_source-in-Compute in
+    let from : List ℤ = cells_at left.result.at left.result.count copy in
+    let with : List ℤ = cells_at right.result.at right.result.count copy in
+    let value : ℤ = to_z w64 (of_z w64 here.value) in
+    let step : ℤ = to_z w64 (of_z w64 here.step) in
+    let cells : List ℤ = kernel_value here.kernel dst.result.count from with value step in
+    subst (λ (o : Op). c.run_placed.new.copy ≡ computed c.args.def.now o copy) (sym here.is)
+    (computed_is c.args.def.now ordered copy from with cells c.run_placed.new.copy dst.result.count here.kernel here.dst here.left here.right here.value here.step value step
+    c.requires.regions (search rules) (search rules) dst.ensures.count
+    (part_is_source ordered copy here.left left.result.at left.result.count left.ensures.at left.ensures.count)
+    (part_is_source ordered copy here.right right.result.at right.result.count right.ensures.at right.ensures.count)
+    refl (c.run_placed.ensures ∙ ap (λ at. spliced at cells copy) dst.ensures.at))

@@ -1,7 +1,7 @@
-use Rattle.std.proofs.Common.{◌≡◌, ◌∙◌, ◌++◌, ◌∷◌, [], ap, sym, refl, subst, append-nil, if◌then◌else◌, option_to_list}
+use Rattle.std.proofs.Common.{◌∙◌, ◌++◌, ◌∷◌, [], ap, sym, refl, subst, append-nil, if◌then◌else◌, option_to_list}
 use Rattle.rt_base.specs.declared.data.Op.TheVariants as op
 use Rattle.rt_base.specs.InUse.{bound_statuses}
-use Rattle.cell_spans.specs.Requests.{HasSpans, Holds, noted_by_all}
+use Rattle.cell_spans.specs.Requests.{HasSpans, noted_by_all}
 use Rattle.cell_spans.proofs.RequestLemmas.{holds_after, nothing_named, is_posted, waited}
 use Rattle.cell_spans.proofs.in_use.SpansInUse.after.Goals as goal
 

@@ -1,6 +1,3 @@
-use Rattle.std.proofs.Common.{◌++◌, option_to_list, subst, sym}
-use Rattle.cell_spans.specs.Marks.{AreMarks}
-use Rattle.cell_spans.specs.Requests.{spans_of, is_receiving, HasSpans}
 use Rattle.cell_spans.proofs.RequestLemmas.{status_last}
 use Rattle.cell_spans.proofs.in_use.SpansInUse.bind.Goals as goal
 

@@ -1,4 +1,4 @@
-use Rattle.std.proofs.Common.{◌≡◌, ◌∙◌, ◌++◌, ap, sym}
+use Rattle.std.proofs.Common.{◌∙◌, ◌++◌, ap, sym}
 use Rattle.rt_base.specs.Touched.{shares, shares_any}
 use Rattle.rt_base.specs.InUse.{bound_statuses}
 use Rattle.cell_spans.specs.Requests.{spans_of, is_receiving}

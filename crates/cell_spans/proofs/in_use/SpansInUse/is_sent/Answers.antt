@@ -1,4 +1,4 @@
-use Rattle.std.proofs.Common.{◌≡◌, ◌∙◌, ap, sym}
+use Rattle.std.proofs.Common.{◌∙◌, ap, sym}
 use Rattle.rt_base.specs.Touched.{shares_any}
 use Rattle.cell_spans.specs.Requests.{spans_of, is_sending}
 use Rattle.cell_spans.proofs.RequestLemmas.{sent_is}

@@ -1,4 +1,4 @@
-use Rattle.std.proofs.Common.{◌≡◌, ◌∙◌, ◌<◌, ap, sym, refl, length, slice_get, IfSome}
+use Rattle.std.proofs.Common.{◌∙◌, ap, sym, refl, slice_get}
 use Rattle.cell_spans.specs.Requests.{unnamed}
 use Rattle.cell_spans.proofs.RequestLemmas.{left_is, count_is}
 use Rattle.cell_spans.proofs.in_use.SpansInUse.left.Goals as goal

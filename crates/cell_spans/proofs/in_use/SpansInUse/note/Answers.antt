@@ -1,5 +1,4 @@
-use Rattle.std.proofs.Common.{◌≡◌, ap, sym, arith}
-use Rattle.cell_spans.specs.Requests.{noted_by}
+use Rattle.std.proofs.Common.{sym, arith}
 use Rattle.cell_spans.proofs.RequestLemmas.{noted_none}
 use Rattle.cell_spans.proofs.in_use.SpansInUse.note.Goals as goal
 

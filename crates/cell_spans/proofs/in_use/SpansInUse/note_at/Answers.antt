@@ -1,4 +1,4 @@
-use Rattle.std.proofs.Common.{◌≡◌, ◌∙◌, ◌&&◌, ap, sym, refl, [], not, false, slice_set}
+use Rattle.std.proofs.Common.{◌∙◌, ◌&&◌, ap, sym, refl, [], not, false, slice_set}
 use Rattle.cell_spans.specs.Requests.{is_receiving, is_sending, noted}
 use Rattle.cell_spans.proofs.RequestLemmas.{named_alone, freed, noted_is, and_true, and_false}
 use Rattle.cell_spans.proofs.in_use.SpansInUse.note_at.Goals as goal

@@ -1,8 +1,6 @@
 use Rattle.std.proofs.Common.{◌≡◌, ◌∙◌, ap, sym, subst, [], ◌∷◌, ◌++◌}
 use Rattle.cell_spans.specs.Marks.{AreMarks}
 use Rattle.cell_spans.specs.Requests.{is_receiving, is_sending, spans_of}
-use Rattle.cell_spans.specs.declared.in_use.Request.{Request}
-use Rattle.cell_spans.specs.declared.in_use.SpansInUse.{SpansInUse}
 use Rattle.cell_spans.proofs.RequestLemmas.{pushed}
 use Rattle.cell_spans.proofs.in_use.SpansInUse.post.Goals as goal
 

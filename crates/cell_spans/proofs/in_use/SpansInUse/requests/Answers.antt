@@ -1,4 +1,4 @@
-use Rattle.std.proofs.Common.{◌≡◌, ◌∙◌, ap, length, arith}
+use Rattle.std.proofs.Common.{ap, length, arith}
 use Rattle.cell_spans.proofs.RequestLemmas.{count_is}
 use Rattle.cell_spans.proofs.in_use.SpansInUse.requests.Goals as goal
 

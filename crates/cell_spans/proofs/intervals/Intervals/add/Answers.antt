@@ -1,4 +1,4 @@
-use Rattle.std.proofs.Common.{ℕ, ◌≡◌, ◌∙◌, refl, sym, Option, Some, None, arith}
+use Rattle.std.proofs.Common.{◌∙◌, refl, arith}
 use Rattle.cell_spans.specs.Intervals.{end_at}
 use Rattle.cell_spans.proofs.IntervalLemmas.{IsAdded, apart_after, those_after, same_key, other_key}
 use Rattle.cell_spans.proofs.intervals.Intervals.add.Goals as goal

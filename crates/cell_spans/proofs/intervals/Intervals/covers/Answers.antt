@@ -1,4 +1,4 @@
-use Rattle.std.proofs.Common.{true, false, ◌≡◌, ◌≤◌, arith}
+use Rattle.std.proofs.Common.{arith}
 use Rattle.std.proofs.lemmas.Bool.{le-leb, leb-true}
 use Rattle.cell_spans.specs.Intervals.{end_at}
 use Rattle.cell_spans.proofs.IntervalLemmas.{last_covers}

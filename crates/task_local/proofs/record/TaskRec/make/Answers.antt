@@ -1,7 +1,7 @@
 use Rattle.std.proofs.Common.{◌≡◌, List, subst, ap, ◌∙◌, arith}
 use Rattle.rt_base.specs.declared.data.Op.{Op}
 use Rattle.task_local.specs.Regions.{regions}
-use Rattle.task_local.specs.Kept.{cell_total, HasRoomFor}
+use Rattle.task_local.specs.Kept.{cell_total, IsScratchOf}
 use Rattle.task_local.proofs.Places.{cell_total-regions}
 use Rattle.task_local.proofs.Programs.{task_is, filled_low, few_cells}
 use Rattle.task_local.proofs.record.TaskRec.make.Goals as goal
@@ -28,12 +28,12 @@ invariant_of-result c =
     let cells : cell_total c.in_ok-regions.regions ≡ cell_total def.accesses.items = ap cell_total regions_are ∙ cell_total-regions def.accesses.items in
     let made = c.in_ok-copy.ensures in
     let scratch = c.in_ok-scratch.ensures in
-    let room = subst (λ (ops : List Op). HasRoomFor ops c.longest_destination.result) c.as_slice-2.ensures c.longest_destination.ensures in
+    let room = subst (λ (ops : List Op). IsScratchOf c.in_ok-regions.regions ops c.longest_scratch.result) c.as_slice-2.ensures c.longest_scratch.ensures in
     record {
       task = def;
       is_task = rw c.of.ensures c.task_def-def.ensures;
       place = tt;
       ordered_regions = regions_are;
       cells = omega (arith, made.len, c.in_ok-copy.copy.ok.0);
-      room = λ k d within. let fits = room k d within in omega (arith, scratch.len, c.in_ok-scratch.scratch.ok.0);
+      room = subst (IsScratchOf c.in_ok-regions.regions def.body.items) (omega (arith, scratch.len, c.in_ok-scratch.scratch.ok.0)) room;
     }

@@ -1,7 +1,7 @@
-use Rattle.std.proofs.Common.{◌≡◌, ℤ, List, ◌++◌, ◌<◌, take, drop, subst, ap, ◌∙◌, length, take_at, arith}
+use Rattle.std.proofs.Common.{◌≡◌, ℤ, List, ◌++◌, ◌<◌, take, drop, subst, sym, ap, ◌∙◌, length, take_at, arith}
 use Rattle.rt_base.specs.declared.data.TaskDef.{TaskDef}
 use Rattle.task_local.specs.Local.{run_front}
-use Rattle.task_local.specs.Kept.{IsPhaseOf}
+use Rattle.task_local.specs.Kept.{IsPhaseOf, IsScratchOf}
 use Rattle.task_local.specs.StandsFor.{Record}
 use Rattle.task_local.specs.Standing.{def, moved_on}
 use Rattle.task_local.proofs.Programs.{record_can_run, few_operations, stop_is_phase, one_task, def_is, moved_on_is}
@@ -16,7 +16,7 @@ run_from-self-inside-requires-clause-can c =
     let same = rw (← c.self.view_is) at c.requires.same in
     rw (c.deref_mut.ensures.value, c.deref_mut-in-At.ensures.value)
     (record_can_run c.args.prog.now c.self.inside.program.value c.self.inside.task.0 c.task_def-def.result.now c.self.invariant.task c.self.inside.regions _ _
-    c.requires.well_formed same c.task_def-def.ensures c.self.invariant.is_task c.self.invariant.ordered_regions c.self.invariant.cells c.self.invariant.room)
+    c.requires.well_formed same c.task_def-def.ensures c.self.invariant.is_task c.self.invariant.ordered_regions c.self.invariant.cells c.self.invariant.room.enough)
 
 pub invariant_of-self : goal.invariant_of-self
 invariant_of-self c =
@@ -35,10 +35,8 @@ invariant_of-self c =
       place = subst (λ (d : TaskDef). IsPhaseOf d ran.result) one (rw ran.ensures.phase (stop_is_phase def c.in-At.k (omega arith)));
       ordered_regions = c.self.invariant.ordered_regions;
       cells = ap length copy ∙ ran.auto.copy ∙ ap length c.deref_mut.ensures.value ∙ c.self.invariant.cells;
-      room = λ k d in_body.
-          let fits = c.self.invariant.room k d in_body in
-          let len = ap length scratch ∙ ran.auto.scratch ∙ ap length c.deref_mut-in-At.ensures.value in
-          omega arith;
+      room = subst (IsScratchOf c.self.inside.regions task.body.items)
+          (sym (ap length scratch ∙ ran.auto.scratch ∙ ap length c.deref_mut-in-At.ensures.value)) c.self.invariant.room;
     }
 
 pub returns-in-At : goal.returns-in-At

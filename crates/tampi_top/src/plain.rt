@@ -1,0 +1,50 @@
+//! Whether a program can be run today.
+ghost use Rattle.std.specs.Prelude.{◌≡◌, ◌↔◌, IsTrue, All};
+ghost use Rattle.rt_base.specs.declared.data.TaskDef.{TaskDef};
+ghost use Rattle.rt_base.specs.Operations.{blocks};
+ghost use Rattle.core_book.specs.Plain.{IsPlainOperation, IsPlain};
+
+use rt_base::{How, Op, Program};
+
+// Whether the posting is a call that blocks.
+fn blocks(how: How) -> bool
+    ensures { result ≡ blocks how }
+{
+    match how {
+        How::Send => true,
+        How::Ssend => true,
+        How::Recv => true,
+        How::Isend => false,
+        How::Issend => false,
+        How::Irecv => false,
+    }
+}
+
+fn is_plain_operation(operation: &Op) -> bool
+    ensures { IsTrue result ↔ IsPlainOperation operation.now }
+{
+    match operation {
+        Op::Compute { .. } => true,
+        Op::Post { how, .. } => blocks(*how),
+        Op::Await { .. } => false,
+    }
+}
+
+fn is_plain_body(operations: &[Op]) -> bool
+    ensures { IsTrue result ↔ All IsPlainOperation operations.now }
+{
+    operations
+        .iter()
+        .all(|operation| is_plain_operation(operation))
+}
+
+/// Whether each operation is a local one or a call that blocks. Looks at each operation.
+pub fn is_plain(program: &Program) -> bool
+    ensures { IsTrue result ↔ IsPlain program.now }
+{
+    program
+        .tasks
+        .as_slice()
+        .iter()
+        .all(|task| is_plain_body(task.body.as_slice()))
+}

@@ -1,3 +1,0 @@
-mod RankKept
-mod RankChain
-mod WholePrograms

@@ -1,8 +1,0 @@
-use Rattle.std.proofs.Common.{◌≡◌, ◌-◌, ◌≤◌, Ok}
-use Rattle.task_tree.specs.Blocks.{Block, written}
-use Rattle.task_ranks.specs.Ranks.{ranks_up_to}
-use Rattle.task_ranks.proofs.ranks.Ranks.all.Given as goal
-
--- the ranks so far are right
-abbrev pub invariant-loop-rank : goal.invariant-loop-rank
-invariant-loop-rank l = (1 ≤ l.rank) × (l.rank ≤ l.size) × ((whole : Block) → written whole ≡ l.stmts → ranks_up_to whole l.size (l.rank - 1) ≡ Ok l.ranks)
