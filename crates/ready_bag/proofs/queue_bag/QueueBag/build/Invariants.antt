@@ -1,0 +1,4 @@
+use Rattle.ready_bag.proofs.queue_bag.QueueBag.build.Given as goal
+
+abbrev pub ghosts-named : goal.ghosts-named
+ghosts-named g a = record { count = a.workers }

@@ -1,0 +1,5 @@
+pub mod Counts
+pub mod Past
+pub mod Rule
+pub mod Passes
+pub mod Closing
