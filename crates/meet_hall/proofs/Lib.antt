@@ -1,0 +1,13 @@
+pub mod Changes
+pub mod PartyLemmas
+pub mod Keeping
+pub mod PlaceLemmas
+pub mod SeatingLemmas
+pub mod HolderKinds
+pub mod ParkKinds
+pub mod TicketKinds
+pub mod RoundKinds
+pub mod PlanLemmas
+pub mod Allowed
+pub mod FirstState
+pub mod Sent

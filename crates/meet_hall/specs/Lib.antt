@@ -1,0 +1,9 @@
+pub mod Answers
+pub mod Holders
+pub mod Parties
+pub mod Places
+pub mod Plan
+pub mod Rule
+pub mod Seatings
+pub mod Steps
+pub mod Views
