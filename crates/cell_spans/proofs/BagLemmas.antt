@@ -6,10 +6,12 @@ use Rattle.cell_spans.specs.Bags.{without_one, without, IsPart}
 use Rattle.cell_spans.proofs.CountLemmas.{count_first, count_yes, count_no, count_split}
 
 -- a number that is there is taken out once
-one_less : (test : ℕ → Bool) (number : ℕ) (xs : List ℕ) → 0 < count_by (nat_eq number) xs → count_by test (without_one number xs) + cond (test number) 1 0 ≡ count_by test xs
+one_less : (test : ℕ → Bool) (number : ℕ) (xs : List ℕ) → 0 < count_by (nat_eq number) xs
+    → count_by test (without_one number xs) + cond (test number) 1 0 ≡ count_by test xs
 one_less test number [] some = absurd (omega arith)
 one_less test number (x ∷ xs) some =
-    ⊎_elim (λ (here : nat_eq number x ≡ true). let same : ◌≡◌ {A = ℕ} (cond (test number) 1 0) (cond (test x) 1 0) = ap (λ n. cond (test n) 1 0) (eqb-true _ _ here) in
+    ⊎_elim (λ (here : nat_eq number x ≡ true). let same : ◌≡◌ {A = ℕ} (cond (test number) 1 0) (cond (test x) 1 0) =
+    ap (λ n. cond (test n) 1 0) (eqb-true _ _ here) in
     omega (arith, ap (λ b. count_by test (if b then xs else x ∷ without_one number xs)) here, same, count_first test x xs))
     (λ (not_here : nat_eq number x ≡ false).
     omega (
@@ -82,16 +84,20 @@ all_at_most number xs all =
 pub one_more_gone : (number : ℕ) (gone more all : List ℕ) → IsPart gone all → count_by (nat_eq number) gone < count_by (nat_eq number) all
     → ((test : ℕ → Bool) → count_by test more ≡ count_by test gone + cond (test number) 1 0) → IsPart more all
 one_more_gone number gone more all part there is n =
-    ⊎_elim (λ (same : nat_eq n number ≡ true). let once : count_by (nat_eq n) more ≡ count_by (nat_eq n) gone + 1 = is (nat_eq n) ∙ ap (λ b. count_by (nat_eq n) gone + cond b 1 0) same in
+    ⊎_elim (λ (same : nat_eq n number ≡ true). let once : count_by (nat_eq n) more ≡ count_by (nat_eq n) gone + 1 = is (nat_eq n)
+    ∙ ap (λ b. count_by (nat_eq n) gone + cond b 1 0) same in
     omega (arith, once, ap (λ k. count_by (nat_eq k) gone) (eqb-true _ _ same), ap (λ k. count_by (nat_eq k) all) (eqb-true _ _ same), there))
-    (λ (other : nat_eq n number ≡ false). let not_once : count_by (nat_eq n) more ≡ count_by (nat_eq n) gone + 0 = is (nat_eq n) ∙ ap (λ b. count_by (nat_eq n) gone + cond b 1 0) other in
+    (λ (other : nat_eq n number ≡ false). let not_once : count_by (nat_eq n) more ≡ count_by (nat_eq n) gone + 0 = is (nat_eq n)
+    ∙ ap (λ b. count_by (nat_eq n) gone + cond b 1 0) other in
     omega (arith, not_once, part n)) (cases_Bool (nat_eq n number))
 
 -- or may leave
 pub one_less_there : (number : ℕ) (gone fewer all : List ℕ) → IsPart gone all → count_by (nat_eq number) gone < count_by (nat_eq number) all
     → ((test : ℕ → Bool) → count_by test fewer + cond (test number) 1 0 ≡ count_by test all) → IsPart gone fewer
 one_less_there number gone fewer all part there is n =
-    ⊎_elim (λ (same : nat_eq n number ≡ true). let once : count_by (nat_eq n) fewer + 1 ≡ count_by (nat_eq n) all = ap (λ b. count_by (nat_eq n) fewer + cond b 1 0) (sym same) ∙ is (nat_eq n) in
+    ⊎_elim (λ (same : nat_eq n number ≡ true). let once : count_by (nat_eq n) fewer + 1 ≡ count_by (nat_eq n) all =
+    ap (λ b. count_by (nat_eq n) fewer + cond b 1 0) (sym same) ∙ is (nat_eq n) in
     omega (arith, once, ap (λ k. count_by (nat_eq k) gone) (eqb-true _ _ same), ap (λ k. count_by (nat_eq k) all) (eqb-true _ _ same), there))
-    (λ (other : nat_eq n number ≡ false). let not_once : count_by (nat_eq n) fewer + 0 ≡ count_by (nat_eq n) all = ap (λ b. count_by (nat_eq n) fewer + cond b 1 0) (sym other) ∙ is (nat_eq n) in
+    (λ (other : nat_eq n number ≡ false). let not_once : count_by (nat_eq n) fewer + 0 ≡ count_by (nat_eq n) all =
+    ap (λ b. count_by (nat_eq n) fewer + cond b 1 0) (sym other) ∙ is (nat_eq n) in
     omega (arith, not_once, part n)) (cases_Bool (nat_eq n number))

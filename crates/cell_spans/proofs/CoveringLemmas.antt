@@ -35,9 +35,11 @@ all_of f first (suc count) all cell low high =
     ⊎_elim (λ (same : first ≡ cell). rw (← same) (and_parts _ _ all).0)
     (λ (other : first ≡ cell → ⊥). all_of f (suc first) count (and_parts _ _ all).1 cell (omega (arith, other)) (omega arith)) (cases_eq first cell)
 
-pub all_from : (f : ℕ → Bool) (first count : ℕ) → ((cell : ℕ) → first ≤ cell → cell < first + count → f cell ≡ true) → list_all f (numbers_from first count) ≡ true
+pub all_from : (f : ℕ → Bool) (first count : ℕ) → ((cell : ℕ) → first ≤ cell → cell < first + count → f cell ≡ true)
+    → list_all f (numbers_from first count) ≡ true
 all_from f first zero each = refl
-all_from f first (suc count) each = and_from _ _ (each first (omega arith) (omega arith)) (all_from f (suc first) count (λ cell low high. each cell (omega arith) (omega arith)))
+all_from f first (suc count) each =
+    and_from _ _ (each first (omega arith) (omega arith)) (all_from f (suc first) count (λ cell low high. each cell (omega arith) (omega arith)))
 
 -- two tests that hold at the same are the same
 pub same_tests : (b c : Bool) (P : Type 0) → (b ≡ true ↔ P) → (c ≡ true ↔ P) → b ≡ c
@@ -58,7 +60,8 @@ pub spans_are : (span : Span) (ends : ℕ → Option ℕ) (here : ℕ → Bool) 
 spans_are span ends here cell_test small those same = (there, back)
   where
     there : list_all cell_test (cells_of span) ≡ true → (spot : ℕ) → (begin_of span ≤ spot) × (spot < end_of span) → Has ends spot
-    there all spot (low, high) = (those spot).1 (rw (← at) (same cell (omega (arith, cell_is)) ∙ all_of cell_test span.from (span.to - span.from) all cell (omega (arith, cell_is)) (omega (arith, cell_is))))
+    there all spot (low, high) = (those spot).1 (rw (← at) (same cell (omega (arith, cell_is))
+        ∙ all_of cell_test span.from (span.to - span.from) all cell (omega (arith, cell_is)) (omega (arith, cell_is))))
       where
         cell : ℕ
         cell = spot - span.array * 4294967296
@@ -77,12 +80,14 @@ spans_are span ends here cell_test small those same = (there, back)
 pub declared_where : (span : Span) (accesses : List Access) (ends : ℕ → Option ℕ) → IsSmall span → AreSmall accesses → AreThose ends (is_covered accesses)
     → (is_declared accesses span ≡ true) ↔ ((spot : ℕ) → (begin_of span ≤ spot) × (spot < end_of span) → Has ends spot)
 unfolding is_declared
-declared_where span accesses ends small all those = spans_are span ends (is_covered accesses) _ small those (λ cell fits. covered_at accesses all span.array cell fits)
+declared_where span accesses ends small all those =
+    spans_are span ends (is_covered accesses) _ small those (λ cell fits. covered_at accesses all span.array cell fits)
 
 pub writable_where : (span : Span) (accesses : List Access) (ends : ℕ → Option ℕ) → IsSmall span → AreSmall accesses → AreThose ends (is_open accesses)
     → (is_writable accesses span ≡ true) ↔ ((spot : ℕ) → (begin_of span ≤ spot) × (spot < end_of span) → Has ends spot)
 unfolding is_writable
-writable_where span accesses ends small all those = spans_are span ends (is_open accesses) _ small those (λ cell fits. open_at accesses all span.array cell fits)
+writable_where span accesses ends small all those =
+    spans_are span ends (is_open accesses) _ small those (λ cell fits. open_at accesses all span.array cell fits)
 
 -- an empty span is declared and writable
 pub nothing_declared : (span : Span) (accesses : List Access) → span.to ≤ span.from → is_declared accesses span ≡ true
@@ -132,17 +137,20 @@ writable_answer span accesses ends interval answer is small all those says =
     same_tests answer (is_writable accesses span) _ (rw (the_interval span interval is) at says) (writable_where span accesses ends small all those)
 
 -- a place of both spans tells that they share a cell, and the other way round
-pub shares_at : (one other : Span) (spot : ℕ) → IsSmall one → IsSmall other → (begin_of one ≤ spot) × (spot < end_of one) → lies_in spot other ≡ true → shares one other ≡ true
+pub shares_at : (one other : Span) (spot : ℕ) → IsSmall one → IsSmall other → (begin_of one ≤ spot) × (spot < end_of one) → lies_in spot other ≡ true
+    → shares one other ≡ true
 shares_at one other spot small small_other inside lies = grind (arith, nat_tests)
 
 pub shared_place : (one other : Span) → IsSmall one → IsSmall other → shares one other ≡ true
-    → ((begin_of one ≤ place one.array (max one.from other.from)) × (place one.array (max one.from other.from) < end_of one)) × (lies_in (place one.array (max one.from other.from)) other ≡ true)
+    → ((begin_of one ≤ place one.array (max one.from other.from)) × (place one.array (max one.from other.from) < end_of one))
+    × (lies_in (place one.array (max one.from other.from)) other ≡ true)
 shared_place one other small small_other shared =
     let parts : (nat_eq one.array other.array ≡ true) × (nat_lt (max one.from other.from) (min one.to other.to) ≡ true) = and_parts _ _ shared in
     let same : one.array ≡ other.array = eqb-true _ _ parts.0 in
     let below : max one.from other.from < min one.to other.to = ltb-true _ _ parts.1 in (
       (omega arith, omega arith),
-      and_from _ _ (le-leb (begin_of other) (place one.array (max one.from other.from)) (omega arith)) (lt-ltb (place one.array (max one.from other.from)) (end_of other) (omega arith)),
+      and_from _ _ (le-leb (begin_of other) (place one.array (max one.from other.from)) (omega arith))
+          (lt-ltb (place one.array (max one.from other.from)) (end_of other) (omega arith)),
     )
 
 -- the test of an access line
@@ -161,9 +169,11 @@ pub place_from : (span : Span) (accesses : List Access) → IsSmall span → Are
 place_from span [] small all found = absurd (false≢true found)
 place_from span (access ∷ accesses) small all found =
     ⊎_elim (λ (here : (shares span access.span || false) ≡ true).
-    let both : _ = shared_place span access.span small all.0 (⊎_elim (λ (h : shares span access.span ≡ true). h) (λ (no : false ≡ true). absurd (false≢true no)) (or_cases _ _ here)) in
+    let both : _ = shared_place span access.span small all.0 (⊎_elim (λ (h : shares span access.span ≡ true). h) (λ (no : false
+    ≡ true). absurd (false≢true no)) (or_cases _ _ here)) in
     (place span.array (max span.from access.span.from), both.0, or_left _ _ both.1))
-    (λ (later : overlaps_any accesses span ≡ true). let rest : _ = place_from span accesses small all.1 later in (rest.0, rest.1, or_right _ _ rest.2)) (or_cases _ _ found)
+    (λ (later : overlaps_any accesses span ≡ true). let rest : _ = place_from span accesses small all.1 later in
+    (rest.0, rest.1, or_right _ _ rest.2)) (or_cases _ _ found)
 
 pub overlap_answer : (span : Span) (accesses : List Access) (ends : ℕ → Option ℕ) (interval : Interval) (answer : Bool) → Some interval ≡ interval_of span
     → IsSmall span → AreSmall accesses → AreThose ends (is_covered accesses)
@@ -205,7 +215,8 @@ pub inside_is : (span : Span) (interval : Interval) → Some interval ≡ interv
 inside_is span interval is spot = ap (is_in spot) (the_interval span interval is)
 
 pub nowhere : (span : Span) → span.to ≤ span.from → (spot : ℕ) → lies_in spot span ≡ false
-nowhere span empty spot = false_from_ne_true _ (λ lies. let parts : (nat_le (begin_of span) spot ≡ true) × (nat_lt spot (end_of span) ≡ true) = and_parts _ _ lies in
+nowhere span empty spot = false_from_ne_true _ (λ lies. let parts : (nat_le (begin_of span) spot ≡ true) × (nat_lt spot (end_of span) ≡ true) =
+    and_parts _ _ lies in
     let low : begin_of span ≤ spot = leb-true _ _ parts.0 in let high : spot < end_of span = ltb-true _ _ parts.1 in absurd (omega arith))
 
 -- a place of the span belongs to neither set, where it overlaps no access
@@ -217,35 +228,52 @@ no_place span accesses all changing interval is small agrees apart spot inside h
 pub open_is_covered : (accesses : List Access) (spot : ℕ) → is_open accesses spot ≡ true → is_covered accesses spot ≡ true
 open_is_covered [] spot lies = lies
 open_is_covered (access ∷ accesses) spot lies =
-    ⊎_elim (λ (here : (lies_in spot access.span && is_written access.mode) ≡ true). or_left _ _ (and_parts (lies_in spot access.span) (is_written access.mode) here).0)
+    ⊎_elim (λ (here : (lies_in spot access.span && is_written access.mode)
+    ≡ true). or_left _ _ (and_parts (lies_in spot access.span) (is_written access.mode) here).0)
     (λ (later : is_open accesses spot ≡ true). or_right _ _ (open_is_covered accesses spot later)) (or_cases _ _ lies)
 
 pub no_open_place : (span : Span) (accesses : List Access) (all changing : List (ℕ × ℕ)) (interval : Interval) → Some interval ≡ interval_of span → IsSmall span
     → Agrees accesses all changing → overlaps_any accesses span ≡ false → (spot : ℕ) → IsIn spot interval → Has (end_at changing) spot → ⊥
 no_open_place span accesses all changing interval is small agrees apart spot inside has =
-    no_place span accesses all changing interval is small agrees apart spot inside ((agrees.declared spot).1 (open_is_covered accesses spot ((agrees.written spot).0 has)))
+    no_place span accesses all changing interval is small agrees apart spot inside
+    ((agrees.declared spot).1 (open_is_covered accesses spot ((agrees.written spot).0 has)))
 
 -- the sets agree with the accesses again: after an access without a cell, one that is read, and one that is written
-pub agrees_empty : (accesses : List Access) (access : Access) (all changing : List (ℕ × ℕ)) → Agrees accesses all changing → IsSmall access.span → access.span.to ≤ access.span.from
+pub agrees_empty : (accesses : List Access) (access : Access) (all changing : List (ℕ × ℕ)) → Agrees accesses all changing → IsSmall access.span
+    → access.span.to ≤ access.span.from
     → Agrees (accesses ++ access ∷ []) all changing
 agrees_empty accesses access all changing agrees small empty = record {
   small = small_after accesses access agrees.small small;
-  declared = those_same _ _ _ agrees.declared (λ spot. rw (any_push (λ (a : Access). lies_in spot a.span) accesses access, nowhere access.span empty spot) refl);
-  written = those_same _ _ _ agrees.written (λ spot. rw (any_push (λ (a : Access). lies_in spot a.span && is_written a.mode) accesses access, nowhere access.span empty spot) refl);
+  declared = those_same _ _ _ agrees.declared (λ spot. rw (
+    any_push (λ (a : Access). lies_in spot a.span) accesses access,
+    nowhere access.span empty spot,
+  ) refl);
+  written = those_same _ _ _ agrees.written (λ spot. rw (
+    any_push (λ (a : Access). lies_in spot a.span && is_written a.mode) accesses access,
+    nowhere access.span empty spot,
+  ) refl);
 }
 
-pub agrees_after : (accesses : List Access) (access : Access) (all changing new_all new_changing : List (ℕ × ℕ)) (interval : Interval) → Some interval ≡ interval_of access.span
+pub agrees_after : (accesses : List Access) (access : Access) (all changing new_all new_changing : List (ℕ × ℕ)) (interval : Interval)
+    → Some interval ≡ interval_of access.span
     → Agrees accesses all changing → IsSmall access.span
     → ((test : ℕ → Bool) → AreThose (end_at all) test → AreThose (end_at new_all) (λ spot. is_in spot interval || test spot))
     → AreThose (end_at new_changing) (λ spot. (is_in spot interval && is_written access.mode) || is_open accesses spot)
     → Agrees (accesses ++ access ∷ []) new_all new_changing
 agrees_after accesses access all changing new_all new_changing interval is agrees small grows changes = record {
   small = small_after accesses access agrees.small small;
-  declared = those_same _ _ _ (grows _ agrees.declared) (λ spot. rw (any_push (λ (a : Access). lies_in spot a.span) accesses access, inside_is access.span interval is spot) refl);
-  written = those_same _ _ _ changes (λ spot. rw (any_push (λ (a : Access). lies_in spot a.span && is_written a.mode) accesses access, inside_is access.span interval is spot) refl);
+  declared = those_same _ _ _ (grows _ agrees.declared) (λ spot. rw (
+    any_push (λ (a : Access). lies_in spot a.span) accesses access,
+    inside_is access.span interval is spot,
+  ) refl);
+  written = those_same _ _ _ changes (λ spot. rw (
+    any_push (λ (a : Access). lies_in spot a.span && is_written a.mode) accesses access,
+    inside_is access.span interval is spot,
+  ) refl);
 }
 
-pub open_if_written : (b : Bool) (ends : ℕ → Option ℕ) (f g : ℕ → Bool) → b ≡ true → AreThose ends (λ spot. f spot || g spot) → AreThose ends (λ spot. (f spot && b) || g spot)
+pub open_if_written : (b : Bool) (ends : ℕ → Option ℕ) (f g : ℕ → Bool) → b ≡ true → AreThose ends (λ spot. f spot || g spot)
+    → AreThose ends (λ spot. (f spot && b) || g spot)
 open_if_written b ends f g e those = those_same _ _ _ those (λ spot. rw e (both (f spot) (g spot)))
   where
     both : (x y : Bool) → (x || y) ≡ ((x && true) || y)

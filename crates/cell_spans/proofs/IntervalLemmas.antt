@@ -25,7 +25,8 @@ module _ (ends : ℕ → Option ℕ) (whole : AreApart ends) where
       by_order (inr (inr later)) = absurd (omega (arith, no_later))
 
   -- the last interval that begins before the end of a span shares a place with it exactly where any does
-  pub last_meets : (from to begin end : ℕ) → from < to → IsLast ends to begin end → IsTrue (nat_lt from end) ↔ ((spot : ℕ) × ((from ≤ spot) × (spot < to)) × Has ends spot)
+  pub last_meets : (from to begin end : ℕ) → from < to → IsLast ends to begin end
+      → IsTrue (nat_lt from end) ↔ ((spot : ℕ) × ((from ≤ spot) × (spot < to)) × Has ends spot)
   last_meets from to begin end some last = (there, back)
     where
       there : IsTrue (nat_lt from end) → (spot : ℕ) × ((from ≤ spot) × (spot < to)) × Has ends spot
@@ -91,7 +92,8 @@ module _ (ends new : ℕ → Option ℕ) (from to begin end : ℕ) (whole : AreA
     where
       by_case : (o : Option ℕ) → ends to ≡ o → ((ends to ≡ None) × (end ≡ to)) ⊎ ((ends to ≡ Some end) × (to < end))
       by_case None e = inl (e, added.stop ∙ ap (λ o. unwrap_or o to) e)
-      by_case (Some upto) e = let same : end ≡ upto = added.stop ∙ ap (λ o. unwrap_or o to) e in inr (e ∙ ap Some (sym same), whole.some to end (e ∙ ap Some (sym same)))
+      by_case (Some upto) e = let same : end ≡ upto = added.stop ∙ ap (λ o. unwrap_or o to) e in
+          inr (e ∙ ap Some (sym same), whole.some to end (e ∙ ap Some (sym same)))
 
   -- an interval of the new map is the added one or an old one
   which : (b e : ℕ) → new b ≡ Some e → ((b ≡ begin) × (e ≡ end)) ⊎ ((b ≡ begin → ⊥) × (b ≡ to → ⊥) × (ends b ≡ Some e))
@@ -142,11 +144,13 @@ module _ (ends new : ℕ → Option ℕ) (from to begin end : ℕ) (whole : AreA
             where
               by_start : (begin < from) ⊎ (from ≤ begin) → e < later
               by_start (inl joined) = let gap : e < begin = whole.apart b e begin from old (added.start.joined joined) (omega arith) in omega arith
-              by_start (inr alone) = let gap : e < from = added.start.alone (omega (arith, added.start.low)) b e (omega (arith, added.start.low)) old in omega arith
+              by_start (inr alone) = let gap : e < from = added.start.alone (omega (arith, added.start.low)) b e (omega (arith, added.start.low)) old in
+                  omega arith
           by_kinds (inl (at, till)) (inr (_, no_end, old)) = by_place (outside later other old)
             where
               by_place : (later < from) ⊎ (to ≤ later) → e < later
-              by_place (inl early) = let gap : from < later = whole.apart begin from later other (added.start.joined (omega arith)) old (omega arith) in absurd (omega arith)
+              by_place (inl early) = let gap : from < later = whole.apart begin from later other (added.start.joined (omega arith)) old (omega arith) in
+                  absurd (omega arith)
               by_place (inr late) = by_late ends_late
                 where
                   past : to < later

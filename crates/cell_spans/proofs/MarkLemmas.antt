@@ -18,7 +18,8 @@ one_counts s h small some small_other = grind (arith, nat_tests)
 
 -- of several: as many begin before its end as end before its beginning, and those that share a cell with it
 pub counts : (s : Span) (hs : List Span) → IsSmall s → s.from < s.to → AllSmall hs
-    → count_by (λ h. is_some_span h && nat_lt (begin_of h) (end_of s)) hs ≡ count_by (λ h. is_some_span h && nat_lt (end_of h) (begin_of s + 1)) hs + count_by (shares s) hs
+    → count_by (λ h. is_some_span h && nat_lt (begin_of h) (end_of s)) hs
+    ≡ count_by (λ h. is_some_span h && nat_lt (end_of h) (begin_of s + 1)) hs + count_by (shares s) hs
 counts s [] small some all = omega arith
 counts s (h ∷ hs) small some all =
     omega (
@@ -41,15 +42,19 @@ differ : (b u c : ℕ) → b ≡ u + c → not (nat_eq b u) ≡ nat_lt 0 c
 differ b u c h = grind (arith, nat_tests)
 
 -- the answer of a bag is that of the definition
-pub meets_answer : (span : Span) (spans : List Span) (begins ends : List ℕ) (interval : Interval) (before past : ℕ) → Some interval ≡ interval_of span → IsSmall span
-    → AreMarks begins ends spans → before ≡ count_by (λ number. nat_lt number interval.end) begins → past ≡ count_by (λ number. nat_lt number (interval.begin + 1)) ends
+pub meets_answer : (span : Span) (spans : List Span) (begins ends : List ℕ) (interval : Interval) (before past : ℕ) → Some interval ≡ interval_of span
+    → IsSmall span
+    → AreMarks begins ends spans → before ≡ count_by (λ number. nat_lt number interval.end) begins
+    → past ≡ count_by (λ number. nat_lt number (interval.begin + 1)) ends
     → not (nat_eq before past) ≡ shares_any spans span
 meets_answer span spans begins ends interval before past is small marks before_is past_is =
     differ before past (count_by (shares span) spans)
-    (before_is ∙ ap (λ (i : Interval). count_by (λ number. nat_lt number i.end) begins) (the_interval span interval is) ∙ marks.begins (λ number. nat_lt number (end_of span))
+    (before_is ∙ ap (λ (i : Interval). count_by (λ number. nat_lt number i.end) begins) (the_interval span interval is)
+    ∙ marks.begins (λ number. nat_lt number (end_of span))
     ∙ counts span spans small (some_cells span interval is) marks.small
     ∙ ap (λ n. n + count_by (shares span) spans)
-    (sym (past_is ∙ ap (λ (i : Interval). count_by (λ number. nat_lt number (i.begin + 1)) ends) (the_interval span interval is) ∙ marks.ends (λ number. nat_lt number (begin_of span + 1)))))
+    (sym (past_is ∙ ap (λ (i : Interval). count_by (λ number. nat_lt number (i.begin + 1)) ends) (the_interval span interval is)
+    ∙ marks.ends (λ number. nat_lt number (begin_of span + 1)))))
     ∙ sym (any_counted (shares span) spans)
 
 -- an empty span shares a cell with none
@@ -77,7 +82,8 @@ counts_small (span ∷ spans) none =
     fits : is_large span ≡ false → IsSmall span
     fits low = (grind (arith, nat_tests), grind (arith, nat_tests), grind (arith, nat_tests))
 
-pub marks_same : (begins ends : List ℕ) (xs ys : List Span) → ((test : Span → Bool) → count_by test xs ≡ count_by test ys) → AreMarks begins ends xs → AreMarks begins ends ys
+pub marks_same : (begins ends : List ℕ) (xs ys : List Span) → ((test : Span → Bool) → count_by test xs ≡ count_by test ys) → AreMarks begins ends xs
+    → AreMarks begins ends ys
 marks_same begins ends xs ys same marks = record {
   small = counts_small ys (sym (same is_large) ∙ small_counts xs marks.small);
   begins = λ test. marks.begins test ∙ same _;

@@ -3,26 +3,26 @@ use Rattle.std.specs.Prelude.{◌≡◌, ℕ, zero, suc, ◌+◌, Bool, true, no
 use Rattle.std.specs.List.{list_any}
 use Rattle.rt_base.specs.declared.data.Span.{Span}
 use Rattle.rt_base.specs.declared.data.Op.{Op}
-use Rattle.rt_base.specs.declared.data.Op.TheVariants as op
 use Rattle.rt_base.specs.declared.data.Handle.{Handle}
 use Rattle.rt_base.specs.declared.data.Handle.TheVariants as handle
-use Rattle.rt_base.specs.Operations.{blocks, is_receive}
+use Rattle.rt_base.specs.Operations.{PostingParts, blocks, is_receive, posting_parts, given}
 use Rattle.rt_base.specs.InUse.{completes, names_request, posts, bound_statuses}
 use Rattle.cell_spans.specs.Marks.{AreMarks}
 use Rattle.cell_spans.specs.declared.in_use.Request.{Request}
 use Rattle.cell_spans.specs.declared.in_use.SpansInUse.{SpansInUse}
 
 -- what is kept of a request whose posting stands before these operations
+abbrev pub request_posted : ℕ → PostingParts → List Op → Request
+request_posted n posted later = record {
+  span = posted.span;
+  receives = is_receive posted.how;
+  used = not (blocks posted.how || list_any (completes n) later);
+  named = blocks posted.how || list_any (names_request n) later;
+}
+
+-- of the request of an operation, where it posts one
 abbrev pub request_of : ℕ → Op → List Op → List Request
-request_of n (op.Compute kernel dst left right value step) later = []
-request_of n (op.Post how span whom tag comm status) later =
-    record {
-      span = span;
-      receives = is_receive how;
-      used = not (blocks how || list_any (completes n) later);
-      named = blocks how || list_any (names_request n) later;
-    } ∷ []
-request_of n (op.Await later handles status) after = []
+request_of n operation later = given [] (λ posted. request_posted n posted later ∷ []) (posting_parts operation)
 
 -- and of all requests of these operations, the first of which posts the nth
 abbrev pub requests_of : ℕ → List Op → List Request

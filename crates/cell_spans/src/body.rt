@@ -1,6 +1,7 @@
 //! The body of the open task, with its requests and the spans in use.
 
-ghost use Rattle.std.specs.Prelude.{◌≡◌, ◌<◌, [], ◌∷◌, ◌++◌, OnOk, OnErr, IfSome, slice_get};
+ghost use Rattle.std.specs.Prelude.{◌≡◌, ◌<◌, List, [], ◌∷◌, ◌++◌, OnOk, OnErr, IfSome, slice_get};
+ghost use Rattle.rt_base.specs.declared.data.Access.{Access};
 ghost use Rattle.rt_base.specs.Operations.{postings};
 ghost use Rattle.rt_base.specs.InUse.{is_in_use, left_after};
 
@@ -47,9 +48,9 @@ impl OpenBody {
         self.in_use.requests()
     }
 
-    /// Whether this operation, as the next one, would read a cell in use for reading, or write one in use for writing.
+    /// Whether this operation, as the next one, would read a cell in use for reading, or write one in use for writing, whatever the accesses of the task.
     pub fn is_in_use(&self, operation: &Op) -> bool
-        ensures { result ≡ is_in_use self.now operation.now }
+        ensures { (accesses : List Access) → result ≡ is_in_use accesses self.now operation.now }
     {
         self.in_use.is_in_use(operation)
     }

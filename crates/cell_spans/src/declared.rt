@@ -3,13 +3,12 @@
 ghost use Rattle.std.specs.Prelude.{◌≡◌, false, [], ◌∷◌, ◌++◌, OnOk, OnErr};
 ghost use Rattle.std.specs.List.{list_any};
 ghost use Rattle.rt_base.specs.declared.data.Access.{Access};
-ghost use Rattle.rt_base.specs.Spans.{is_written};
 ghost use Rattle.rt_base.specs.Touched.{shares_any, is_declared, is_writable};
 ghost use Rattle.cell_spans.specs.Covering.{Agrees};
 
 use crate::intervals::Intervals;
 use crate::line::interval_of;
-use rt_base::{Access, Accesses, Mode, Span};
+use rt_base::{Access, Accesses, Span};
 use std::alloc::{AllocError, Global};
 use std::marker::Model;
 
@@ -107,17 +106,6 @@ impl Declared {
     }
 }
 
-// Whether an access may be written.
-fn is_written(mode: Mode) -> bool
-    ensures { result ≡ is_written mode }
-{
-    match mode {
-        Mode::In => false,
-        Mode::Out => true,
-        Mode::Inout => true,
-    }
-}
-
 // Adds an access that shares no cell with those before it.
 fn add_access(
     accesses: &mut Vec<Access>,
@@ -135,7 +123,7 @@ fn add_access(
         return Ok(());
     };
     declared.add(interval)?;
-    if is_written(access.mode) {
+    if access.mode.is_written() {
         written.add(interval)?;
     }
     Ok(())

@@ -1,17 +1,18 @@
 //! The requests of a body and the spans in use.
 
-ghost use Rattle.std.specs.Prelude.{◌≡◌, ◌<◌, Bool, not, ◌&&◌, ◌||◌, List, [], ◌∷◌, ◌++◌, length, option_to_list, OnOk, OnErr, IfSome, slice_get, if◌then◌else◌};
+ghost use Rattle.std.specs.Prelude.{◌≡◌, ◌<◌, Bool, false, not, ◌&&◌, ◌||◌, List, [], ◌∷◌, ◌++◌, length, option_to_list, OnOk, OnErr, IfSome, slice_get, if◌then◌else◌};
 ghost use Rattle.std.specs.List.{list_any};
 ghost use Rattle.rt_base.specs.declared.data.Op.{Op};
+ghost use Rattle.rt_base.specs.declared.data.Access.{Access};
 ghost use Rattle.rt_base.specs.declared.data.Span.{Span};
-ghost use Rattle.rt_base.specs.Operations.{postings, blocks, is_receive};
+ghost use Rattle.rt_base.specs.Operations.{postings, given};
 ghost use Rattle.rt_base.specs.Touched.{shares, shares_any};
 ghost use Rattle.rt_base.specs.InUse.{is_in_use, left_after, received_after, sent_after, bound_statuses};
 ghost use Rattle.cell_spans.specs.Marks.{AreMarks};
 ghost use Rattle.cell_spans.specs.Requests.{noted, noted_at, noted_by, noted_by_all, unnamed, HasSpans, Holds};
 
 use crate::span_bag::SpanBag;
-use rt_base::{Handle, How, Op, Span};
+use rt_base::{Handle, Op, Span};
 use std::alloc::{AllocError, Global};
 
 /// What is kept of a request: its span, whether it is a receive, whether the span is in use, and whether it was waited for or a wait named it.
@@ -29,26 +30,6 @@ pub(crate) struct SpansInUse {
     requests: Vec<Request>,
     received: SpanBag,
     sent: SpanBag,
-}
-
-// Whether the call returns only when its request is complete.
-fn blocks(how: How) -> bool
-    ensures { result ≡ blocks how }
-{
-    match how {
-        How::Send | How::Ssend | How::Recv => true,
-        How::Isend | How::Issend | How::Irecv => false,
-    }
-}
-
-// Whether it is a receive.
-fn is_receive(how: How) -> bool
-    ensures { result ≡ is_receive how }
-{
-    match how {
-        How::Recv | How::Irecv => true,
-        How::Send | How::Ssend | How::Isend | How::Issend => false,
-    }
 }
 
 // Whether the spans share a cell.
@@ -127,10 +108,10 @@ impl SpansInUse {
         }
     }
 
-    /// Whether this operation, as the next one, would read a cell in use for reading, or write one in use for writing.
+    /// Whether this operation, as the next one, would read a cell in use for reading, or write one in use for writing, whatever the accesses of the task.
     #[tactic(auto, using(crate::proofs::RequestLemmas::any_append), unfolding(rt_base::specs::InUse::is_in_use))]
     pub(crate) fn is_in_use(&self, operation: &Op) -> bool
-        ensures { (earlier : List Op) → Holds self.now earlier → result ≡ is_in_use earlier operation.now }
+        ensures { (accesses : List Access) (earlier : List Op) → Holds self.now earlier → result ≡ is_in_use accesses earlier operation.now }
     {
         match operation {
             Op::Compute {
@@ -152,7 +133,7 @@ impl SpansInUse {
             } => {
                 self.is_received(*span)
                     || self.any_received(*status)
-                    || (is_receive(*how) && self.is_sent(*span))
+                    || (how.is_receive() && self.is_sent(*span))
                     || self.any_sent(*status)
                     || shares_status(*span, *status)
             }
@@ -294,9 +275,9 @@ impl SpansInUse {
             Op::Post { how, span, .. } => {
                 self.post(Request {
                     span: *span,
-                    receives: is_receive(*how),
-                    used: !blocks(*how),
-                    named: blocks(*how),
+                    receives: how.is_receive(),
+                    used: !how.blocks(),
+                    named: how.blocks(),
                 })?;
                 Ok(())
             }
@@ -338,7 +319,7 @@ fn first_unnamed(requests: &[Request]) -> Option<usize>
 
 // Whether a receive's own status lies on its span.
 fn shares_status(span: Span, status: Option<Span>) -> bool
-    ensures { result ≡ list_any (shares span) (option_to_list status) }
+    ensures { result ≡ given false (shares span) status }
 {
     match status {
         Some(status) => shares(span, status),

@@ -1,8 +1,7 @@
--- What the end of a body, a release and a question owe, in terms of a book's fields.
-use Rattle.std.proofs.Common.{◌≡◌, ◌≢◌, ℕ, ◌<◌, ◌≤◌, Bool, true, false, List, [], ◌∷◌, ◌++◌, length, slice_get, slice_set, take, drop, Some, refl, sym, ap, ◌∙◌, subst, arith}
-use Rattle.std.specs.Prelude.{ℤ, option_map}
+-- A start, a return and a release: what each changes of a book, and where it leaves the record.
+use Rattle.std.proofs.Common.{◌≡◌, ℕ, ◌≤◌, true, List, [], ◌∷◌, ◌++◌, length, slice_get, slice_set, take, drop, Some, Option, refl, sym, ap, ◌∙◌, subst, arith}
+use Rattle.std.specs.Prelude.{option_map, unwrap_or, ℤ}
 use Rattle.std.proofs.Math.Seq.{take-append_seam}
-use Rattle.rt_base.specs.declared.data.ReqNo.{ReqNo}
 use Rattle.rt_base.specs.declared.data.Phase.{Phase}
 use Rattle.rt_base.specs.declared.data.Phase.TheVariants as phase
 use Rattle.rt_base.specs.declared.data.Status.{Status}
@@ -10,197 +9,168 @@ use Rattle.rt_base.specs.declared.data.Entry.{Entry}
 use Rattle.rt_base.specs.declared.data.Entry.TheVariants as entry
 use Rattle.rt_base.specs.declared.data.TaskDef.{TaskDef}
 use Rattle.rt_base.specs.declared.data.Program.{Program}
-use Rattle.rt_base.specs.Layout.{memory_len}
 use Rattle.rt_base.specs.Operations.{task_no}
-use Rattle.rt_base.specs.State.{State, Task, is_released}
+use Rattle.rt_base.specs.State.{State, Task}
 use Rattle.rt_base.specs.MayMove.{MayMove, MayMoveAt}
-use Rattle.match_engine.specs.Switch.{Switch}
 use Rattle.region_deps.specs.Readiness.{Readiness, IsWhole}
-use Rattle.task_local.specs.Regions.{saved}
-use Rattle.task_local.specs.Standing.{def_of}
-use Rattle.task_local.specs.StandsFor.{Record, StandsFor, StandsAs}
-use Rattle.core_book.specs.Machine.{return_move}
-use Rattle.core_book.specs.Legal.{final}
-use Rattle.core_book.specs.Ledger.{Ledger, MakesMove}
-use Rattle.core_book.specs.Kept.{IsBook, moves_left}
-use Rattle.core_book.proofs.Lists.{slice_set_same, slice_get-map}
-use Rattle.core_book.proofs.Changes.{return_changes, release_changes}
-use Rattle.core_book.proofs.BookLemmas.{Asked, book_after, still_held, def_is, room_for_entry, makes_move}
+use Rattle.task_local.specs.Regions.{loaded, saved}
+use Rattle.task_local.specs.Local.{advanced, stop}
+use Rattle.task_local.specs.Waits.{taken_at_release}
+use Rattle.task_local.specs.Standing.{def_of, phase_before}
+use Rattle.task_local.specs.StandsFor.{Record, StandsAs}
+use Rattle.task_machine.specs.Machine.{start_move, return_move}
+use Rattle.core_book.specs.Ledger.{record_at, record_after, named_at}
+use Rattle.core_book.specs.Kept.{Shelf, KeepsState, state_now}
+use Rattle.core_book.proofs.After.{Changes}
+use Rattle.core_book.proofs.Changes.{start_changes, return_changes, release_changes}
+use Rattle.core_book.proofs.Moved.{IsMoved, moved_alone}
+use Rattle.core_book.proofs.Held.{Held, handed_of, stands_before, stop_is_held}
+
+-- where a record is left, by where it stands
+pub left_as : (shelf : Shelf) (held : Record) (t : ℕ) (def : TaskDef) (at : Phase) → Held shelf held t def at
+    → record_after shelf.program (state_now shelf) held ≡ record_at shelf.program (state_now shelf) def held at
+left_as shelf held t def at h =
+    ap (λ (d : TaskDef). record_at shelf.program (state_now shelf) d held held.phase) h.held_def ∙ ap (record_at shelf.program (state_now shelf) def held) h.place
+
+-- the task after its start
+abbrev pub started_task : Shelf → TaskDef → Task → Task
+started_task shelf def was = record was { phase = stop def 0; copy = advanced def 0 (loaded shelf.program def (state_now shelf).memory) }
+
+pub start_changed : (shelf : Shelf) (held : Record) (t : ℕ) (def : TaskDef) → KeepsState shelf → (h : Held shelf held t def phase.Waiting)
+    → MayMove shelf.program (state_now shelf) t
+    → Changes shelf.program (state_now shelf) t def h.was (started_task shelf def h.was) (start_move shelf.program (state_now shelf) t def h.was).state
+    (entry.Start (task_no t))
+start_changed shelf held t def k h may = start_changes shelf.program (state_now shelf) t def h.was h.is_def h.is_task h.stands may k.tidy
+
+pub start_moved : (shelf : Shelf) (held : Record) (t : ℕ) (def : TaskDef) (at : Phase) (entries : List Entry) (places : ℕ) → KeepsState shelf
+    → (h : Held shelf held t def phase.Waiting) → slice_get shelf.ready.handed t ≡ Some true → at ≡ stop def 0
+    → entries ≡ shelf.entries ++ entry.Start (task_no t) ∷ [] → shelf.entry_places ≤ places
+    → IsMoved shelf (record shelf { phases = slice_set shelf.phases t at; entries = entries; entry_places = places }) t (started_task shelf def h.was)
+    (start_move shelf.program (state_now shelf) t def h.was).state (entry.Start (task_no t))
+start_moved shelf held t def at entries places k h handed stops grown more =
+    moved_alone shelf t h.was (started_task shelf def h.was) (entry.Start (task_no t)) at entries places k h.is_task (rw h.stands refl)
+    (stop_is_held def 0) handed stops grown more
+
+pub start_left : (shelf : Shelf) (held loaded_held after : Record) (t : ℕ) (def : TaskDef) (at : Phase) (memory : List ℤ) (prog : Program) → KeepsState shelf
+    → (h : Held shelf held t def phase.Waiting) → prog ≡ shelf.program → memory ≡ shelf.memory
+    → loaded_held ≡ record held { copy = loaded prog (def_of held.program held.task) memory } → at ≡ phase_before def 0
+    → after ≡ record loaded_held { phase = at }
+    → after ≡ record_at shelf.program (state_now shelf) def held phase.Waiting
+start_left shelf held loaded_held after t def at memory prog k h same memories load stops go =
+    let p : Program = shelf.program in
+    let copied : loaded prog (def_of held.program held.task) memory ≡ loaded p def (state_now shelf).memory =
+    ap (λ (z : Program). loaded z (def_of held.program held.task) memory) same ∙ ap (λ (d : TaskDef). loaded p d memory) h.held_def
+    ∙ ap (loaded p def) (memories ∙ k.memory_is) in
+    go ∙ ap (λ (z : Record). record z { phase = at }) load
+    ∙ ap (λ (q : Phase). record held { copy = loaded prog (def_of held.program held.task) memory; phase = q }) stops
+    ∙ ap (λ (cs : List ℤ). record held { copy = cs; phase = phase_before def 0 }) copied
+
+pub start_stands : (shelf : Shelf) (held after : Record) (def : TaskDef) (was : Task) → after ≡ record_at shelf.program (state_now shelf) def held phase.Waiting
+    → StandsAs def after.phase after.copy (started_task shelf def was)
+start_stands shelf held after def was left =
+    subst (λ (z : Record). StandsAs def z.phase z.copy (started_task shelf def was)) (sym left)
+    (stands_before def 0 (loaded shelf.program def (state_now shelf).memory) (started_task shelf def was) refl refl)
+
+-- a task whose body has ended may return
+pub may_return : (shelf : Shelf) (held : Record) (t : ℕ) (def : TaskDef) → (h : Held shelf held t def phase.Ended) → MayMove shelf.program (state_now shelf) t
+may_return shelf held t def h = record {
+  def = def;
+  task = h.was;
+  is_def = h.is_def;
+  is_task = h.is_task;
+  enabled = subst (MayMoveAt shelf.program (state_now shelf).tasks (state_now shelf).exchange t def h.was) (sym h.stands.0) tt;
+}
+
+abbrev pub returned_task : Task → Task
+returned_task was = record was { phase = phase.Returned }
+
+pub ret_changed : (shelf : Shelf) (held : Record) (t : ℕ) (def : TaskDef) → KeepsState shelf → (h : Held shelf held t def phase.Ended)
+    → Changes shelf.program (state_now shelf) t def h.was (returned_task h.was) (return_move (state_now shelf) t h.was).state (entry.Return (task_no t))
+ret_changed shelf held t def k h =
+    return_changes shelf.program (state_now shelf) t def h.was h.is_def h.is_task h.stands.0 (may_return shelf held t def h) k.tidy
+
+pub ret_moved : (shelf : Shelf) (held : Record) (t : ℕ) (def : TaskDef) (entries : List Entry) (places : ℕ) → KeepsState shelf
+    → (h : Held shelf held t def phase.Ended)
+    → entries ≡ shelf.entries ++ entry.Return (task_no t) ∷ [] → shelf.entry_places ≤ places
+    → IsMoved shelf (record shelf { phases = slice_set shelf.phases t phase.Returned; entries = entries; entry_places = places }) t (returned_task h.was)
+    (return_move (state_now shelf) t h.was).state (entry.Return (task_no t))
+ret_moved shelf held t def entries places k h grown more =
+    moved_alone shelf t h.was (returned_task h.was) (entry.Return (task_no t)) phase.Returned entries places k h.is_task (rw h.stands.0 refl) refl
+    (handed_of shelf held t def phase.Ended phase.Ended k h h.stands.0 (λ e. absurd (cc e))) refl grown more
+
+-- the copy that a release would put back, of a task that bound nothing
+pub release_left : (shelf : Shelf) (held after : Record) (t : ℕ) (def : TaskDef) → KeepsState shelf → (h : Held shelf held t def phase.Returned)
+    → after ≡ record held { phase = phase.Released } → after ≡ record_at shelf.program (state_now shelf) def held phase.Returned
+release_left shelf held after t def k h went =
+    let s : State = state_now shelf in
+    let none : named_at s.tasks held.task ≡ [] =
+    ap (λ (i : ℕ). named_at s.tasks i) (sym h.who) ∙ ap (λ (o : Option Task). unwrap_or (option_map (λ (z : Task). z.named) o) []) h.is_task
+    ∙ (k.tidy.unbound t h.was h.is_task).0 in
+    went ∙ ap (λ (ks : List ℕ). record held { phase = phase.Released; copy = taken_at_release shelf.program s.exchange held.task def ks held.copy }) (sym none)
+
+abbrev pub released_task : Task → Task
+released_task was = record was { phase = phase.Released }
+
+-- the state after a release of a task that bound nothing
+abbrev pub released_state : Shelf → ℕ → TaskDef → Task → State
+released_state shelf t def was = record (state_now shelf) {
+  memory = saved shelf.program def was.copy (state_now shelf).memory;
+  tasks = slice_set (state_now shelf).tasks t (released_task was);
+}
+
+-- what is saved, in the state's own terms
+pub saved_now : (shelf : Shelf) (held : Record) (t : ℕ) (def : TaskDef) (prog : Program) (before after : List ℤ) → KeepsState shelf
+    → (h : Held shelf held t def phase.Returned)
+    → prog ≡ shelf.program → before ≡ shelf.memory → after ≡ saved prog (def_of held.program held.task) held.copy before
+    → after ≡ saved shelf.program def h.was.copy (state_now shelf).memory
+saved_now shelf held t def prog before after k h same seen put =
+    let p : Program = shelf.program in
+    put ∙ ap (λ (z : Program). saved z (def_of held.program held.task) held.copy before) same ∙ ap (λ (d : TaskDef). saved p d held.copy before) h.held_def
+    ∙ ap (λ (cs : List ℤ). saved p def cs before) h.stands.1 ∙ ap (saved p def h.was.copy) (seen ∙ k.memory_is)
+
+pub release_changed : (shelf : Shelf) (held : Record) (t : ℕ) (def : TaskDef) (after : List ℤ) → KeepsState shelf → (h : Held shelf held t def phase.Returned)
+    → MayMove shelf.program (state_now shelf) t → after ≡ saved shelf.program def h.was.copy (state_now shelf).memory → length after ≡ length shelf.memory
+    → Changes shelf.program (state_now shelf) t def h.was (released_task h.was) (released_state shelf t def h.was)
+    (entry.Release (task_no t) (length (state_now shelf).statuses) 0)
+release_changed shelf held t def after k h may put long =
+    release_changes shelf.program (state_now shelf) t def h.was h.is_def h.is_task h.stands.0 may k.tidy
+    (ap (λ (z : List ℤ). length z) (sym put) ∙ long ∙ ap (λ (z : List ℤ). length z) k.memory_is ∙ k.tidy.cells)
+
+pub release_moved : (shelf : Shelf) (held : Record) (t n unreleased : ℕ) (def : TaskDef) (ready : Readiness) (after : List ℤ) (entries : List Entry)
+    (waits : List ℕ) (places : ℕ)
+    → KeepsState shelf → (h : Held shelf held t def phase.Returned) → after ≡ saved shelf.program def h.was.copy (state_now shelf).memory
+    → ready.program ≡ shelf.ready.program → ready.handed ≡ shelf.ready.handed → ready.gone.released ≡ slice_set shelf.ready.gone.released t true → IsWhole ready
+    → n ≡ length shelf.statuses → entries ≡ shelf.entries ++ entry.Release (task_no t) n 0 ∷ [] → shelf.entry_places ≤ places
+    → IsMoved shelf (record shelf {
+      ready = ready;
+      memory = after;
+      phases = slice_set shelf.phases t phase.Released;
+      entries = entries;
+      unreleased = unreleased;
+      waits = waits;
+      entry_places = places;
+    }) t (released_task h.was) (released_state shelf t def h.was) (entry.Release (task_no t) (length (state_now shelf).statuses) 0)
+release_moved shelf held t n unreleased def ready after entries waits places k h put programs marks freed whole told grown more = record {
+  program = refl;
+  workers = refl;
+  handed = handed_of shelf held t def phase.Returned phase.Returned k h h.stands.0 (λ e. absurd (cc e));
+  marks = marks;
+  of_program = programs;
+  gone = freed;
+  whole = whole;
+  engine = refl;
+  exchange = k.exchange_is;
+  phases = refl;
+  memory = put;
+  notices = k.notices_are;
+  entries = grown ∙ ap (λ (i : ℕ). shelf.entries ++ entry.Release (task_no t) i 0 ∷ []) (told ∙ ap (λ (z : List Status). length z) k.legal.told);
+  statuses = k.legal.told;
+  entry_places = more;
+  status_places = omega arith;
+  notice_places = omega arith;
+}
 
 -- a list that was lent whole comes back whole
 pub whole_back : (new old : List ℤ) (len : ℕ) → length new ≡ len → length old ≡ len → take len (new ++ drop (length new) old) ≡ new
 whole_back new old len is_new is_old =
     ap (λ (n : ℕ). take n (new ++ drop (length new) old)) (sym is_new) ∙ take-append_seam new (drop (length new) old)
-
-ended_waits : (at : Phase) → at ≡ phase.Ended → at ≡ phase.Waiting → ⊥
-ended_waits at ended waiting = cc
-
-returned_waits : (at : Phase) → at ≡ phase.Returned → at ≡ phase.Waiting → ⊥
-returned_waits at returned waiting = cc
-
--- a task whose body has ended may return
-pub may_return : (p : Program) (es : List Entry) (held : Record) → (stands : StandsFor p held (final p es)) → held.phase ≡ phase.Ended → (stands.task.phase ≡ phase.Ended) × (held.copy ≡ stands.task.copy)
-may_return p es held stands ended = subst (λ (at : Phase). StandsAs stands.def at held.copy stands.task) ended stands.stands
-
-pub asked_to_return : (p : Program) (es : List Entry) (held : Record) → StandsFor p held (final p es) → held.phase ≡ phase.Ended → Asked p es held
-asked_to_return p es held stands ended = record {
-  stands = stands;
-  may = record {
-    def = stands.def;
-    task = stands.task;
-    is_def = stands.is_def;
-    is_task = stands.is_task;
-    enabled = subst (λ (at : Phase). MayMoveAt p (final p es).tasks (final p es).exchange held.task stands.def stands.task at) (sym (may_return p es held stands ended).0) tt;
-  };
-}
-
-pub stands_here : (l : Ledger) (p prog : Program) (w : ℕ) (es : List Entry) (ss : List Status) (handed : List Bool) (held : Record)
-    → record { program = p; workers = w; history = es; statuses = ss; handed = handed } ≡ l → prog ≡ l.program → StandsFor prog held (final prog l.history) → StandsFor p held (final p es)
-stands_here l p prog w es ss handed held view same stands =
-    let programs : prog ≡ p = same ∙ sym (ap (λ (z : Ledger). z.program) view) in
-    let histories : l.history ≡ es = sym (ap (λ (z : Ledger). z.history) view) in
-    subst (λ (z : Program). StandsFor z held (final z es)) programs (subst (λ (z : List Entry). StandsFor prog held (final prog z)) histories stands)
-
--- a task that was started was handed out
-pub handed_of : (p : Program) (w : ℕ) (ready : Readiness) (m : List ℤ) (phs : List Phase) (x : Switch) (ns : List ReqNo) (es : List Entry) (ss : List Status) (a b c : ℕ) (t : ℕ) (was : Task)
-    → IsBook p w ready m phs x ns es ss a b c → slice_get (final p es).tasks t ≡ Some was → was.phase ≢ phase.Waiting → slice_get ready.handed t ≡ Some true
-handed_of p w ready m phs x ns es ss a b c t was book is_task started =
-    book.kept.begun t was.phase (ap (λ (z : List Phase). slice_get z t) book.kept.phases_are ∙ slice_get-map (λ (z : Task). z.phase) (final p es).tasks t ∙ ap (option_map (λ (z : Task). z.phase)) is_task) started
-
-pub ret_invariant : (p : Program) (w : ℕ) (ready : Readiness) (m : List ℤ) (phs : List Phase) (x : Switch) (ns : List ReqNo) (es es' : List Entry) (ss : List Status) (a b c a' : ℕ) (held : Record) (t : ℕ)
-    → IsBook p w ready m phs x ns es ss a b c → StandsFor p held (final p es) → held.phase ≡ phase.Ended → t ≡ held.task → es' ≡ es ++ entry.Return (task_no t) ∷ [] → a ≤ a'
-    → IsBook p w ready m (slice_set phs t phase.Returned) x ns es' ss a' b c
-ret_invariant p w ready m phs x ns es es' ss a b c a' held t book stands ended who grown more =
-    let s : State = final p es in
-    let was : Task = stands.task in
-    let at : was.phase ≡ phase.Ended = (may_return p es held stands ended).0 in
-    let is_task : slice_get s.tasks t ≡ Some was = ap (slice_get s.tasks) who ∙ stands.is_task in
-    let ask = asked_to_return p es held stands ended in
-    let marks = still_held p w ready m phs x ns es ss a b c t was book is_task (ap is_released at) in
-    book_after p w ready ready m m phs (slice_set phs t phase.Returned) x x ns ns es es' ss ss a b c a' b c t stands.def was (record was { phase = phase.Returned }) (return_move s t was).state (entry.Return (task_no t)) book
-    (return_changes p s t stands.def was (ap (slice_get p.tasks.items) who ∙ stands.is_def) is_task at (subst (MayMove p s) (sym who) ask.may) book.kept.orderly)
-    (record {
-      handed = handed_of p w ready m phs x ns es ss a b c t was book is_task (λ e. ended_waits was.phase at e);
-      handed' = refl;
-      of_program' = refl;
-      gone' = sym (slice_set_same ready.gone.released t false marks);
-      whole' = book.whole;
-      phases_are = refl;
-      memory_is = book.kept.memory_is;
-      engine_of' = refl;
-      exchange_is = book.kept.exchange_is;
-      notices_are = book.kept.notices_are;
-      entries_are = grown;
-      statuses_are = book.kept.legal.told;
-      entry_places = more;
-      status_places = omega arith;
-      notice_places = omega arith;
-    })
-
-pub ret_makes : (p : Program) (w : ℕ) (ready : Readiness) (m : List ℤ) (phs : List Phase) (x : Switch) (ns : List ReqNo) (es es' : List Entry) (ss : List Status) (a b c : ℕ) (held after : Record) (t : ℕ)
-    → IsBook p w ready m phs x ns es ss a b c → StandsFor p held (final p es) → held.phase ≡ phase.Ended → t ≡ held.task → es' ≡ es ++ entry.Return (task_no t) ∷ []
-    → after ≡ record held { phase = phase.Returned } → (l : Ledger) → record { program = p; workers = w; history = es; statuses = ss; handed = ready.handed } ≡ l
-    → MakesMove l (record { program = p; workers = w; history = es'; statuses = ss; handed = ready.handed }) held after
-ret_makes p w ready m phs x ns es es' ss a b c held after t book stands ended who grown went l view =
-    let s : State = final p es in
-    let was : Task = stands.task in
-    let now : Task = record was { phase = phase.Returned } in
-    let at = may_return p es held stands ended in
-    let ask = asked_to_return p es held stands ended in
-    makes_move p w es es' ss ss ready.handed ready.handed held after t stands.def was now (return_move s t was).state (entry.Return (task_no t))
-    (return_changes p s t stands.def was (ap (slice_get p.tasks.items) who ∙ stands.is_def) (ap (slice_get s.tasks) who ∙ stands.is_task) at.0 (subst (MayMove p s) (sym who) ask.may) book.kept.orderly)
-    who grown book.kept.legal.told refl (ap (λ (z : Record). z.task) went) (ap (λ (z : Record). z.program) went ∙ stands.same)
-    (subst (λ (z : Record). StandsAs stands.def z.phase z.copy now) (sym went) (refl, at.1)) l view
-
-pub room_at_return : (p : Program) (w : ℕ) (ready : Readiness) (m : List ℤ) (phs : List Phase) (x : Switch) (ns : List ReqNo) (es : List Entry) (ss : List Status) (a b c : ℕ) (held : Record)
-    → IsBook p w ready m phs x ns es ss a b c → StandsFor p held (final p es) → held.phase ≡ phase.Ended → length es < a
-room_at_return p w ready m phs x ns es ss a b c held book stands ended =
-    let left : moves_left (length stands.def.body.items) stands.task.phase ≡ 2 = ap (moves_left (length stands.def.body.items)) (may_return p es held stands ended).0 in
-    (room_for_entry p w ready m phs x ns es ss a b c held.task stands.def stands.task book stands.is_def stands.is_task (omega arith)).0
-
--- a returned record's task has returned
-pub is_returned : (p : Program) (es : List Entry) (held : Record) → (stands : StandsFor p held (final p es)) → held.phase ≡ phase.Returned → (stands.task.phase ≡ phase.Returned) × (held.copy ≡ stands.task.copy)
-is_returned p es held stands returned = subst (λ (at : Phase). StandsAs stands.def at held.copy stands.task) returned stands.stands
-
--- what is saved, in the state's own terms
-saved_now : (p prog : Program) (es : List Entry) (held : Record) (m m' : List ℤ) → (stands : StandsFor p held (final p es)) → prog ≡ p → held.copy ≡ stands.task.copy → m ≡ (final p es).memory
-    → m' ≡ saved prog (def_of held.program held.task) held.copy m → m' ≡ saved p stands.def stands.task.copy (final p es).memory
-saved_now p prog es held m m' stands same copies memories put =
-    let held_def : def_of held.program held.task ≡ stands.def = ap (λ (z : Program). def_of z held.task) stands.same ∙ def_is p held.task stands.def stands.is_def in
-    put ∙ ap (λ (z : Program). saved z (def_of held.program held.task) held.copy m) same ∙ ap (λ (d : TaskDef). saved p d held.copy m) held_def
-    ∙ ap (λ (cs : List ℤ). saved p stands.def cs m) copies ∙ ap (saved p stands.def stands.task.copy) memories
-
-pub release_invariant : (p prog : Program) (w : ℕ) (ready ready' : Readiness) (m m' : List ℤ) (phs : List Phase) (x : Switch) (ns : List ReqNo) (es es' : List Entry) (ss : List Status) (a b c a' : ℕ) (held : Record) (t n : ℕ)
-    → IsBook p w ready m phs x ns es ss a b c → prog ≡ p → (ask : Asked p es held) → held.phase ≡ phase.Returned → t ≡ held.task
-    → m' ≡ saved prog (def_of held.program held.task) held.copy m → length m' ≡ length m
-    → ready'.program ≡ ready.program → ready'.handed ≡ ready.handed → ready'.gone.released ≡ slice_set ready.gone.released t true → IsWhole ready'
-    → n ≡ length ss → es' ≡ es ++ entry.Release (task_no t) n 0 ∷ [] → a ≤ a'
-    → IsBook p w ready' m' (slice_set phs t phase.Released) x ns es' ss a' b c
-release_invariant p prog w ready ready' m m' phs x ns es es' ss a b c a' held t n book same ask returned who put long programs marks freed whole told grown more =
-    let s : State = final p es in
-    let stands = ask.stands in
-    let was : Task = stands.task in
-    let at = is_returned p es held stands returned in
-    let is_task : slice_get s.tasks t ≡ Some was = ap (slice_get s.tasks) who ∙ stands.is_task in
-    let is_put = saved_now p prog es held m m' stands same at.1 book.kept.memory_is put in
-    let cells : length (saved p stands.def was.copy s.memory) ≡ memory_len p =
-    ap (λ (z : List ℤ). length z) (sym is_put) ∙ long ∙ ap (λ (z : List ℤ). length z) book.kept.memory_is ∙ book.kept.orderly.cells in
-    let count : n ≡ length s.statuses = told ∙ ap (λ (z : List Status). length z) book.kept.legal.told in
-    book_after p w ready ready' m m' phs (slice_set phs t phase.Released) x x ns ns es es' ss ss a b c a' b c t stands.def was (record was { phase = phase.Released })
-    (record s { memory = saved p stands.def was.copy s.memory; tasks = slice_set s.tasks t (record was { phase = phase.Released }) }) (entry.Release (task_no t) (length s.statuses) 0) book
-    (release_changes p s t stands.def was (ap (slice_get p.tasks.items) who ∙ stands.is_def) is_task at.0 (subst (MayMove p s) (sym who) ask.may) book.kept.orderly cells)
-    (record {
-      handed = handed_of p w ready m phs x ns es ss a b c t was book is_task (λ e. returned_waits was.phase at.0 e);
-      handed' = marks;
-      of_program' = programs;
-      gone' = freed;
-      whole' = whole;
-      phases_are = refl;
-      memory_is = is_put;
-      engine_of' = refl;
-      exchange_is = book.kept.exchange_is;
-      notices_are = book.kept.notices_are;
-      entries_are = grown ∙ ap (λ (i : ℕ). es ++ entry.Release (task_no t) i 0 ∷ []) count;
-      statuses_are = book.kept.legal.told;
-      entry_places = more;
-      status_places = omega arith;
-      notice_places = omega arith;
-    })
-
-pub release_makes : (p prog : Program) (w : ℕ) (ready : Readiness) (m m' : List ℤ) (phs : List Phase) (x : Switch) (ns : List ReqNo) (es es' : List Entry) (ss : List Status) (a b c : ℕ) (marks' : List Bool) (held after : Record) (t n : ℕ)
-    → IsBook p w ready m phs x ns es ss a b c → prog ≡ p → (ask : Asked p es held) → held.phase ≡ phase.Returned → t ≡ held.task
-    → m' ≡ saved prog (def_of held.program held.task) held.copy m → length m' ≡ length m → marks' ≡ ready.handed
-    → n ≡ length ss → es' ≡ es ++ entry.Release (task_no t) n 0 ∷ [] → after ≡ record held { phase = phase.Released }
-    → (l : Ledger) → record { program = p; workers = w; history = es; statuses = ss; handed = ready.handed } ≡ l
-    → MakesMove l (record { program = p; workers = w; history = es'; statuses = ss; handed = marks' }) held after
-release_makes p prog w ready m m' phs x ns es es' ss a b c marks' held after t n book same ask returned who put long marks told grown went l view =
-    let s : State = final p es in
-    let stands = ask.stands in
-    let was : Task = stands.task in
-    let now : Task = record was { phase = phase.Released } in
-    let at = is_returned p es held stands returned in
-    let is_put = saved_now p prog es held m m' stands same at.1 book.kept.memory_is put in
-    let cells : length (saved p stands.def was.copy s.memory) ≡ memory_len p =
-    ap (λ (z : List ℤ). length z) (sym is_put) ∙ long ∙ ap (λ (z : List ℤ). length z) book.kept.memory_is ∙ book.kept.orderly.cells in
-    let count : n ≡ length s.statuses = told ∙ ap (λ (z : List Status). length z) book.kept.legal.told in
-    makes_move p w es es' ss ss ready.handed marks' held after t stands.def was now
-    (record s { memory = saved p stands.def was.copy s.memory; tasks = slice_set s.tasks t now }) (entry.Release (task_no t) (length s.statuses) 0)
-    (release_changes p s t stands.def was (ap (slice_get p.tasks.items) who ∙ stands.is_def) (ap (slice_get s.tasks) who ∙ stands.is_task) at.0 (subst (MayMove p s) (sym who) ask.may) book.kept.orderly cells)
-    who (grown ∙ ap (λ (i : ℕ). es ++ entry.Release (task_no t) i 0 ∷ []) count) book.kept.legal.told marks (ap (λ (z : Record). z.task) went) (ap (λ (z : Record). z.program) went ∙ stands.same)
-    (subst (λ (z : Record). StandsAs stands.def z.phase z.copy now) (sym went) (refl, at.1)) l view
-
-pub room_at_release : (p : Program) (w : ℕ) (ready : Readiness) (m : List ℤ) (phs : List Phase) (x : Switch) (ns : List ReqNo) (es : List Entry) (ss : List Status) (a b c : ℕ) (held : Record)
-    → IsBook p w ready m phs x ns es ss a b c → (stands : StandsFor p held (final p es)) → held.phase ≡ phase.Returned → length es < a
-room_at_release p w ready m phs x ns es ss a b c held book stands returned =
-    let left : moves_left (length stands.def.body.items) stands.task.phase ≡ 1 = ap (moves_left (length stands.def.body.items)) (is_returned p es held stands returned).0 in
-    (room_for_entry p w ready m phs x ns es ss a b c held.task stands.def stands.task book stands.is_def stands.is_task (omega arith)).0
-
--- the marks that a release asks of the graph
-pub marks_at_release : (p : Program) (w : ℕ) (ready : Readiness) (m : List ℤ) (phs : List Phase) (x : Switch) (ns : List ReqNo) (es : List Entry) (ss : List Status) (a b c : ℕ) (held : Record) (t : ℕ)
-    → IsBook p w ready m phs x ns es ss a b c → (stands : StandsFor p held (final p es)) → held.phase ≡ phase.Returned → t ≡ held.task
-    → (slice_get ready.handed t ≡ Some true) × (slice_get ready.gone.released t ≡ Some false)
-marks_at_release p w ready m phs x ns es ss a b c held t book stands returned who =
-    let was : Task = stands.task in
-    let at = is_returned p es held stands returned in
-    let is_task : slice_get (final p es).tasks t ≡ Some was = ap (slice_get (final p es).tasks) who ∙ stands.is_task in
-    (handed_of p w ready m phs x ns es ss a b c t was book is_task (λ e. returned_waits was.phase at.0 e), still_held p w ready m phs x ns es ss a b c t was book is_task (ap is_released at.0))

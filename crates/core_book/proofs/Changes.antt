@@ -9,10 +9,6 @@ use Rattle.std.proofs.lemmas.Bool.Decides.{nat_tests}
 use Rattle.rt_base.specs.declared.data.Status.{Status}
 use Rattle.std.proofs.lemmas.Option.{slice_get_within, get_or_from_slice_get}
 use Rattle.rt_base.specs.declared.data.ReqNo.{ReqNo}
-use Rattle.rt_base.specs.declared.data.Span.{Span}
-use Rattle.rt_base.specs.declared.data.Peer.{Peer}
-use Rattle.rt_base.specs.declared.data.TagSel.{TagSel}
-use Rattle.rt_base.specs.declared.data.How.{How}
 use Rattle.rt_base.specs.declared.data.Op.{Op}
 use Rattle.rt_base.specs.declared.data.Op.TheVariants as op
 use Rattle.rt_base.specs.declared.data.Phase.TheVariants as phase
@@ -30,10 +26,12 @@ use Rattle.task_local.specs.Regions.{saved, loaded}
 use Rattle.task_local.specs.Local.{advanced, stop}
 use Rattle.task_local.specs.Packed.{packed}
 use Rattle.task_local.specs.Waits.{told, taken}
-use Rattle.core_book.specs.Machine.{start_move, return_move, release_move, leave_move, post_move, call_move, posted_task, noticed, is_expected}
-use Rattle.core_book.specs.Kept.{moves_left, posted_by_phase, IsOrderly}
-use Rattle.core_book.proofs.Rows.{move-row}
-use Rattle.core_book.proofs.Stops.{posted_by-stop, left_at_stop, stop_started}
+use Rattle.task_machine.specs.Machine.{start_move, return_move, release_move, leave_move, post_move, call_move, posted_task, noticed, is_expected}
+use Rattle.task_machine.specs.Course.{moves_left, posted_by_phase}
+use Rattle.core_book.specs.declared.posting.Posting.{Posting}
+use Rattle.core_book.specs.Kept.{IsTidy, PostsAs}
+use Rattle.task_machine.proofs.Rows.{move-row}
+use Rattle.task_machine.proofs.Stops.{posted_by-stop, left_at_stop, stop_started}
 use Rattle.core_book.proofs.After.{Changes}
 
 stop_is_started : (def : TaskDef) (k : ℕ) → stop def k ≢ phase.Waiting
@@ -51,9 +49,11 @@ pub left_by_stop : (def : TaskDef) (k : ℕ) → k ≤ length def.body.items →
 unfolding stop
 left_by_stop def k within = left_at_stop (length def.body.items) k (drop k def.body.items) (rest_counted def.body.items k within)
 
-pub start_changes : (p : Program) (s : State) (t : ℕ) (def : TaskDef) (was : Task) → slice_get p.tasks.items t ≡ Some def → slice_get s.tasks t ≡ Some was → was.phase ≡ phase.Waiting
-    → MayMove p s t → IsOrderly p s
-    → Changes p s t def was (record { phase = stop def 0; copy = advanced def 0 (loaded p def s.memory); named = []; bound = [] }) (start_move p s t def).state (entry.Start (task_no t))
+pub start_changes : (p : Program) (s : State) (t : ℕ) (def : TaskDef) (was : Task) → slice_get p.tasks.items t ≡ Some def → slice_get s.tasks t ≡ Some was
+    → was.phase ≡ phase.Waiting
+    → MayMove p s t → IsTidy p s
+    → Changes p s t def was (record was { phase = stop def 0; copy = advanced def 0 (loaded p def s.memory) }) (start_move p s t def was).state
+    (entry.Start (task_no t))
 start_changes p s t def was is_def is_task waiting may kept = record {
   is_def = is_def;
   is_task = is_task;
@@ -62,7 +62,7 @@ start_changes p s t def was is_def is_task waiting may kept = record {
   moved = move-row p s t def was phase.Waiting is_def is_task waiting;
   tasks = refl;
   cells = kept.cells;
-  unbound = (refl, refl);
+  unbound = kept.unbound t was is_task;
   started = stop_is_started def 0;
   fewer = rw waiting (fewer_at_start (length def.body.items) _ (left_by_stop def 0 (omega arith)));
   later = rw waiting (omega arith);
@@ -71,8 +71,9 @@ start_changes p s t def was is_def is_task waiting may kept = record {
   noticed = omega arith;
 }
 
-pub return_changes : (p : Program) (s : State) (t : ℕ) (def : TaskDef) (was : Task) → slice_get p.tasks.items t ≡ Some def → slice_get s.tasks t ≡ Some was → was.phase ≡ phase.Ended
-    → MayMove p s t → IsOrderly p s
+pub return_changes : (p : Program) (s : State) (t : ℕ) (def : TaskDef) (was : Task) → slice_get p.tasks.items t ≡ Some def → slice_get s.tasks t ≡ Some was
+    → was.phase ≡ phase.Ended
+    → MayMove p s t → IsTidy p s
     → Changes p s t def was (record was { phase = phase.Returned }) (return_move s t was).state (entry.Return (task_no t))
 return_changes p s t def was is_def is_task ended may kept = record {
   is_def = is_def;
@@ -97,12 +98,24 @@ append_nil (x ∷ xs) = ap (λ ys. x ∷ ys) (append_nil xs)
 
 -- the release of a task that bound no request
 bare_release : (p : Program) (s : State) (t : ℕ) (def : TaskDef) (was : Task) → was.named ≡ []
-    → release_move p s t def was ≡ record { state = record s { memory = saved p def was.copy s.memory; tasks = slice_set s.tasks t (record was { phase = phase.Released }) }; entry = entry.Release (task_no t) (length s.statuses) 0 }
+    → release_move p s t def was ≡ record {
+      state = record s {
+        memory = saved p def was.copy s.memory;
+        tasks = slice_set s.tasks t
+            (record was { phase = phase.Released });
+      };
+      entry = entry.Release (task_no t) (length s.statuses) 0;
+    }
 bare_release p s t def was nothing = rw (nothing, append_nil s.statuses) refl
 
-pub release_changes : (p : Program) (s : State) (t : ℕ) (def : TaskDef) (was : Task) → slice_get p.tasks.items t ≡ Some def → slice_get s.tasks t ≡ Some was → was.phase ≡ phase.Returned
-    → MayMove p s t → IsOrderly p s → length (saved p def was.copy s.memory) ≡ memory_len p
-    → Changes p s t def was (record was { phase = phase.Released }) (record s { memory = saved p def was.copy s.memory; tasks = slice_set s.tasks t (record was { phase = phase.Released }) })
+pub release_changes : (p : Program) (s : State) (t : ℕ) (def : TaskDef) (was : Task) → slice_get p.tasks.items t ≡ Some def → slice_get s.tasks t ≡ Some was
+    → was.phase ≡ phase.Returned
+    → MayMove p s t → IsTidy p s → length (saved p def was.copy s.memory) ≡ memory_len p
+    → Changes p s t def was (record was { phase = phase.Released }) (record s {
+      memory = saved p def was.copy s.memory;
+      tasks = slice_set s.tasks t
+          (record was { phase = phase.Released });
+    })
     (entry.Release (task_no t) (length s.statuses) 0)
 release_changes p s t def was is_def is_task returned may kept cells =
     let nothing = (kept.unbound t was is_task).0 in
@@ -144,17 +157,17 @@ statuses_more : (old more : List Status) → length more ≤ 1 → length (old +
 statuses_more old more few = omega (arith, length-append old more)
 
 -- a posting more in the body
-pub nth_at-suc : (def : TaskDef) (k : ℕ) (how : How) (span : Span) (peer : Peer) (tag : TagSel) (comm : ℕ) (status : Option Span) → slice_get def.body.items k ≡ Some (op.Post how span peer tag comm status)
-    → nth_at def (k + 1) ≡ nth_at def k + 1
-nth_at-suc def k how span peer tag comm status here =
-    let posting : Op = op.Post how span peer tag comm status in
-    count_by_more_yes is_posting def.body.items k posting (slice_get_within def.body.items k posting here)
-    (ap is_posting (get_or_from_slice_get def.body.items k posting posting here))
+pub nth_at-suc : (def : TaskDef) (k : ℕ) (x : Op) → slice_get def.body.items k ≡ Some x → is_posting x ≡ true → nth_at def (k + 1) ≡ nth_at def k + 1
+nth_at-suc def k x here posts =
+    count_by_more_yes is_posting def.body.items k x (slice_get_within def.body.items k x here)
+    (ap is_posting (get_or_from_slice_get def.body.items k x x here) ∙ posts)
 
 -- one request more is posted
-posted_after_post : (p : Program) (e : Exchange) (req other : ReqNo) (cells : List ℤ) → is_posted (post p e req cells) other ≡ (is_posted e other || same_request other req)
+posted_after_post : (p : Program) (e : Exchange) (req other : ReqNo) (cells : List ℤ)
+    → is_posted (post p e req cells) other ≡ (is_posted e other || same_request other req)
 unfolding post
-posted_after_post p e req other cells = list_any-append (same_request other) e.posted (req ∷ []) ∙ ap (λ (b : Bool). list_any (same_request other) e.posted || b) (or_false (same_request other req))
+posted_after_post p e req other cells = list_any-append (same_request other) e.posted (req ∷ [])
+    ∙ ap (λ (b : Bool). list_any (same_request other) e.posted || b) (or_false (same_request other req))
 
 -- where a posting leaves its task
 record Posted (def : TaskDef) (k : ℕ) (was now : Task) : Type 0 where
@@ -167,7 +180,8 @@ record Posted (def : TaskDef) (k : ℕ) (was now : Task) : Type 0 where
 fewer_by_one : (n k left : ℕ) → k < n → left ≤ 2 * (n - (k + 1)) + 2 → left + 1 ≤ 2 * (n - k) + 2
 fewer_by_one n k left within few = omega arith
 
-posted_leaves : (def : TaskDef) (k : ℕ) (was : Task) (blocking : Bool) → k < length def.body.items → nth_at def (k + 1) ≡ nth_at def k + 1 → Posted def k was (posted_task def k blocking was)
+posted_leaves : (def : TaskDef) (k : ℕ) (was : Task) (blocking : Bool) → k < length def.body.items → nth_at def (k + 1) ≡ nth_at def k + 1
+    → Posted def k was (posted_task def k blocking was)
 posted_leaves def k was true within more = record {
   named = refl;
   bound = refl;
@@ -196,13 +210,15 @@ by_this_posting : (t u n m : ℕ) (before : Bool) → (before || same_request (r
 by_this_posting t u n m true posted = inl refl
 by_this_posting t u n m false posted = inr (same_parts u t n m posted)
 
-pub post_changes : (p : Program) (s : State) (t : ℕ) (def : TaskDef) (was : Task) (k : ℕ) (how : How) (span : Span) (peer : Peer) (tag : TagSel) (comm : ℕ) (status : Option Span)
-    → slice_get p.tasks.items t ≡ Some def → slice_get s.tasks t ≡ Some was → was.phase ≡ phase.At k → slice_get def.body.items k ≡ Some (op.Post how span peer tag comm status)
-    → MayMove p s t → IsOrderly p s
-    → Changes p s t def was (posted_task def k (blocks how) was) (post_move p s t def was k (blocks how)).state (post_move p s t def was k (blocks how)).entry
-post_changes p s t def was k how span peer tag comm status is_def is_task at is_op may kept =
-    let more = nth_at-suc def k how span peer tag comm status is_op in
-    let leaves = posted_leaves def k was (blocks how) (slice_get_within def.body.items k (op.Post how span peer tag comm status) is_op) more in
+pub post_changes : (p : Program) (s : State) (t : ℕ) (def : TaskDef) (was : Task) (k : ℕ) (posting : Posting)
+    → slice_get p.tasks.items t ≡ Some def → slice_get s.tasks t ≡ Some was → was.phase ≡ phase.At k → PostsAs (slice_get def.body.items k) posting
+    → MayMove p s t → IsTidy p s
+    → Changes p s t def was (posted_task def k (blocks posting.how) was) (post_move p s t def was k (blocks posting.how)).state
+    (post_move p s t def was k (blocks posting.how)).entry
+post_changes p s t def was k posting is_def is_task at posts may kept =
+    let more = nth_at-suc def k (op.Post posting.how posting.span posts.peer posts.tag posts.comm posting.status) posts.is refl in
+    let leaves = posted_leaves def k was (blocks posting.how) (slice_get_within def.body.items k
+    (op.Post posting.how posting.span posts.peer posts.tag posts.comm posting.status) posts.is) more in
     let req : ReqNo = request t (nth_at def k) in
     let cells : List ℤ = packed def k was.copy in
     record {
@@ -210,33 +226,36 @@ post_changes p s t def was k how span peer tag comm status is_def is_task at is_
       is_task = is_task;
       may = may;
       who = refl;
-      moved = move-row p s t def was (phase.At k) is_def is_task at ∙ ap (call_move p s t def was k) is_op;
+      moved = move-row p s t def was (phase.At k) is_def is_task at ∙ ap (call_move p s t def was k) posts.is;
       tasks = refl;
       cells = kept.cells;
       unbound = (leaves.named ∙ (kept.unbound t was is_task).0, leaves.bound ∙ (kept.unbound t was is_task).1);
       started = leaves.started;
-      fewer = let before : moves_left (length def.body.items) was.phase ≡ 2 * (length def.body.items - k) + 2 = ap (moves_left (length def.body.items)) at in omega (arith, leaves.fewer);
+      fewer = let before : moves_left (length def.body.items) was.phase ≡ 2 * (length def.body.items - k) + 2 = ap
+          (moves_left (length def.body.items)) at in omega (arith, leaves.fewer);
       later = let before : posted_by_phase def was.phase ≡ nth_at def k = ap (posted_by_phase def) at in omega (arith, leaves.count);
-      posted = λ u n posted. elim (by_this_posting t u n (nth_at def k) (is_posted s.exchange (request u n)) (sym (posted_after_post p s.exchange req (request u n) cells) ∙ posted)) [
-        | inl before ↦ inl before
-        | inr mine ↦ inr (mine.0, below_count n (nth_at def k) _ mine.1 leaves.count)
-      ];
+      posted = λ u n posted. elim (by_this_posting t u n (nth_at def k) (is_posted s.exchange (request u n))
+          (sym (posted_after_post p s.exchange req (request u n) cells) ∙ posted)) [
+            | inl before ↦ inl before
+            | inr mine ↦ inr (mine.0, below_count n (nth_at def k) _ mine.1 leaves.count)
+          ];
       told = omega arith;
       noticed = noticed_more s.notices _ (one_notice p s.tasks s.exchange (partner p s.exchange req cells));
     }
 
 -- a posting that was left tells at most one status
-told_once : (p : Program) (e : Exchange) (t : ℕ) (def : TaskDef) (k : ℕ) (how : How) (span : Span) (peer : Peer) (tag : TagSel) (comm : ℕ) (status : Option Span)
-    → slice_get def.body.items k ≡ Some (op.Post how span peer tag comm status) → length (told p e t def k) ≤ 1
+told_once : (p : Program) (e : Exchange) (t : ℕ) (def : TaskDef) (k : ℕ) (posting : Posting)
+    → PostsAs (slice_get def.body.items k) posting → length (told p e t def k) ≤ 1
 unfolding told
-told_once p e t def k how span peer tag comm status is_op = rw is_op (one_or_none (is_receive how) _)
+told_once p e t def k posting posts = rw (posts.is) (one_or_none (is_receive posting.how) _)
 
-pub leave_changes : (p : Program) (s : State) (t : ℕ) (def : TaskDef) (was : Task) (k : ℕ) (how : How) (span : Span) (peer : Peer) (tag : TagSel) (comm : ℕ) (status : Option Span)
-    → slice_get p.tasks.items t ≡ Some def → slice_get s.tasks t ≡ Some was → was.phase ≡ phase.In k → slice_get def.body.items k ≡ Some (op.Post how span peer tag comm status)
-    → MayMove p s t → IsOrderly p s
-    → Changes p s t def was (record was { phase = stop def (k + 1); copy = advanced def (k + 1) (taken p s.exchange t def k was.copy) }) (leave_move p s t def was k).state (leave_move p s t def was k).entry
-leave_changes p s t def was k how span peer tag comm status is_def is_task in_k is_op may kept =
-    let within = slice_get_within def.body.items k (op.Post how span peer tag comm status) is_op in
+pub leave_changes : (p : Program) (s : State) (t : ℕ) (def : TaskDef) (was : Task) (k : ℕ) (posting : Posting)
+    → slice_get p.tasks.items t ≡ Some def → slice_get s.tasks t ≡ Some was → was.phase ≡ phase.In k → PostsAs (slice_get def.body.items k) posting
+    → MayMove p s t → IsTidy p s
+    → Changes p s t def was (record was { phase = stop def (k + 1); copy = advanced def (k + 1) (taken p s.exchange t def k was.copy) })
+    (leave_move p s t def was k).state (leave_move p s t def was k).entry
+leave_changes p s t def was k posting is_def is_task in_k posts may kept =
+    let within = slice_get_within def.body.items k (op.Post posting.how posting.span posts.peer posts.tag posts.comm posting.status) posts.is in
     record {
       is_def = is_def;
       is_task = is_task;
@@ -250,6 +269,6 @@ leave_changes p s t def was k how span peer tag comm status is_def is_task in_k 
       fewer = rw in_k (fewer_after_leave (length def.body.items) k _ within (left_by_stop def (k + 1) (omega arith)));
       later = rw (in_k, posted_by-stop def (k + 1) (omega arith)) (omega arith);
       posted = λ u n posted. inl posted;
-      told = statuses_more s.statuses _ (told_once p s.exchange t def k how span peer tag comm status is_op);
+      told = statuses_more s.statuses _ (told_once p s.exchange t def k posting posts);
       noticed = omega arith;
     }

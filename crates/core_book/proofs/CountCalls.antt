@@ -7,10 +7,6 @@ use Rattle.std.proofs.lemmas.List.{length-set}
 use Rattle.std.proofs.lemmas.List.Sums.{sum_by-cons}
 use Rattle.std.proofs.lemmas.Option.{slice_get_within, get_or_from_slice_get, slice_get-get_or}
 use Rattle.rt_base.specs.declared.data.ReqNo.{ReqNo}
-use Rattle.rt_base.specs.declared.data.Span.{Span}
-use Rattle.rt_base.specs.declared.data.How.{How}
-use Rattle.rt_base.specs.declared.data.Status.{Status}
-use Rattle.rt_base.specs.declared.data.Entry.{Entry}
 use Rattle.rt_base.specs.declared.data.Phase.{Phase}
 use Rattle.rt_base.specs.declared.data.Phase.TheVariants as phase
 use Rattle.rt_base.specs.declared.data.Handle.{Handle}
@@ -19,26 +15,26 @@ use Rattle.rt_base.specs.declared.data.Op.{Op}
 use Rattle.rt_base.specs.declared.data.Op.TheVariants as op
 use Rattle.rt_base.specs.declared.data.TaskDef.{TaskDef}
 use Rattle.rt_base.specs.declared.data.Program.{Program}
-use Rattle.rt_base.specs.Operations.{task_no, request, blocks, nth_at, posting_of, named_requests, awaited_by, awaited}
+use Rattle.rt_base.specs.Operations.{request, blocks, nth_at, posting_of, named_requests, awaited_by, awaited}
 use Rattle.rt_base.specs.Matching.{same_request}
 use Rattle.rt_base.specs.Exchange.{Exchange, post, partner}
 use Rattle.rt_base.specs.Completion.{is_complete, completes_alone}
-use Rattle.rt_base.specs.State.{is_released}
 use Rattle.rt_base.specs.WellFormed.{WellFormed, IsTask, NamesOther, Follows}
-use Rattle.match_engine.proofs.SameRequest.{one_request}
-use Rattle.match_engine.proofs.Postings.{only_partner}
+use Rattle.rt_base.proofs.SameRequest.{one_request}
+use Rattle.rt_base.proofs.Postings.{only_partner}
 use Rattle.match_engine.specs.Switch.{Switch}
-use Rattle.region_deps.specs.Readiness.{Readiness}
 use Rattle.task_local.specs.Local.{stop}
 use Rattle.task_local.specs.StandsFor.{Record}
-use Rattle.core_book.specs.Machine.{awaited_at, open_count}
-use Rattle.core_book.specs.Kept.{IsBook, IsCounted, waits_at, awaits_now, noticed_now, one_less_for}
-use Rattle.core_book.proofs.Lists.{slice_get-set_same, slice_get-set_other}
-use Rattle.core_book.proofs.Lines.{same_some}
-use Rattle.core_book.proofs.BookLemmas.{stop_is_held}
-use Rattle.core_book.proofs.Questions.{awaited_is, phases_counted}
-use Rattle.core_book.proofs.CallLemmas.{Calls}
-use Rattle.core_book.proofs.Quiet.{phase_read}
+use Rattle.task_machine.specs.Machine.{awaited_at, open_count}
+use Rattle.task_machine.proofs.Lists.{slice_get-set_same, slice_get-set_other}
+use Rattle.rt_base.specs.Precedes.{LetGo, GoneMore}
+use Rattle.rt_base.specs.State.{is_released, let_go}
+use Rattle.task_machine.proofs.Items.{same_some}
+use Rattle.core_book.specs.declared.posting.Posting.{Posting}
+use Rattle.core_book.specs.Kept.{Shelf, IsBook, IsCounted, state_now, waits_at, awaits_now, noticed_now, one_less_for}
+use Rattle.core_book.proofs.Held.{stop_is_held, phases_counted, read_at}
+use Rattle.core_book.proofs.Questions.{awaited_is}
+use Rattle.core_book.proofs.CallLemmas.{Calls, Answered}
 use Rattle.core_book.proofs.CountLemmas.{counted_after, stop_waits, held_one}
 
 -- each of these requests is one of task u
@@ -89,7 +85,8 @@ none_named u n (handle.Null ∷ handles) others = none_named u n handles (λ i d
 none_named u n (handle.Nth m ∷ handles) others =
     let whole = sum_by-cons (λ (r : ReqNo). cond (same_request (request u n) r) 1 0) (request u m) (named_requests u handles) in
     let apart : n ≢ m = others zero (handle.Nth n) (omega arith) in
-    let differ = false_from_ne_true (same_request (request u n) (request u m)) (λ same. apart (ap (λ (r : ReqNo). r.nth) (one_request (request u n) (request u m) same))) in
+    let differ = false_from_ne_true (same_request (request u n) (request u m))
+    (λ same. apart (ap (λ (r : ReqNo). r.nth) (one_request (request u n) (request u m) same))) in
     let no = ap {B = ℕ} (λ b. cond b 1 0) differ in
     let rest = none_named u n handles (λ i d lt. others (suc i) d (omega arith)) in
     omega arith
@@ -129,12 +126,15 @@ split_here [] k x here = absurd (cc)
 split_here (y ∷ ops) zero x here = ap (λ z. z ∷ ops) (same_some here)
 split_here (y ∷ ops) (suc k) x here = ap (λ zs. y ∷ zs) (split_here ops k x here)
 
-follows_at : (p : Program) (u k : ℕ) (def : TaskDef) (x : Op) → WellFormed p → slice_get p.tasks.items u ≡ Some def → slice_get def.body.items k ≡ Some x → Follows (take k def.body.items) x
+follows_at : (p : Program) (u k : ℕ) (def : TaskDef) (x : Op) → WellFormed p → slice_get p.tasks.items u ≡ Some def → slice_get def.body.items k ≡ Some x
+    → Follows def.accesses.items (take k def.body.items) x
 follows_at p u k def x well is_def here =
-    let task : IsTask p def = subst (IsTask p) (get_or_from_slice_get p.tasks.items u def def is_def) (well.tasks u def (slice_get_within p.tasks.items u def is_def)) in
+    let task : IsTask p def = subst (IsTask p) (get_or_from_slice_get p.tasks.items u def def is_def)
+    (well.tasks u def (slice_get_within p.tasks.items u def is_def)) in
     task.follows (take k def.body.items) (drop (suc k) def.body.items) x (split_here def.body.items k x here)
 
-by_once : (p : Program) (u k n : ℕ) (def : TaskDef) (req : ReqNo) (o : Option Op) → WellFormed p → slice_get p.tasks.items u ≡ Some def → slice_get def.body.items k ≡ o
+by_once : (p : Program) (u k n : ℕ) (def : TaskDef) (req : ReqNo) (o : Option Op) → WellFormed p → slice_get p.tasks.items u ≡ Some def
+    → slice_get def.body.items k ≡ o
     → count_by (same_request req) (awaited_by u n o) ≤ 1
 by_once p u k n def req None well is_def here = omega arith
 by_once p u k n def req (Some (op.Compute kind dst left right value step)) well is_def here = omega arith
@@ -143,7 +143,8 @@ by_once p u k n def req (Some (op.Await later handles status)) well is_def here 
     named_once u handles.items req (follows_at p u k def (op.Await later handles status) well is_def here).handles.1
 
 -- a task awaits a request at most once
-awaited_once : (p : Program) (u : ℕ) (def : TaskDef) (at : Phase) (req : ReqNo) → WellFormed p → slice_get p.tasks.items u ≡ Some def → count_by (same_request req) (awaited_at u (Some def) (Some at)) ≤ 1
+awaited_once : (p : Program) (u : ℕ) (def : TaskDef) (at : Phase) (req : ReqNo) → WellFormed p → slice_get p.tasks.items u ≡ Some def
+    → count_by (same_request req) (awaited_at u (Some def) (Some at)) ≤ 1
 unfolding awaited
 awaited_once p u def phase.Waiting req well is_def = omega arith
 awaited_once p u def (phase.At k) req well is_def = omega arith
@@ -219,7 +220,8 @@ fewer_open p x x' u other (req ∷ reqs) own closes =
     ]
 
 -- for how many things a task waits after the posting of another
-waits_same : (p : Program) (x x' : Exchange) (h : List Bool) (u : ℕ) (def : TaskDef) (at : Phase) → slice_get p.tasks.items u ≡ Some def → AsBefore p x x' u → waits_at p x' h u at ≡ waits_at p x h u at
+waits_same : (p : Program) (x x' : Exchange) (h : List Bool) (u : ℕ) (def : TaskDef) (at : Phase) → slice_get p.tasks.items u ≡ Some def → AsBefore p x x' u
+    → waits_at p x' h u at ≡ waits_at p x h u at
 waits_same p x x' h u def phase.Waiting is_def same = refl
 waits_same p x x' h u def (phase.At k) is_def same = refl
 waits_same p x x' h u def (phase.In k) is_def same =
@@ -232,19 +234,22 @@ waits_same p x x' h u def phase.Released is_def same = refl
 none_more : (n : ℕ) → n + 0 ≡ n
 none_more n = omega arith
 
-waits_fewer : (p : Program) (x x' : Exchange) (h : List Bool) (u : ℕ) (def : TaskDef) (at : Phase) (other : ReqNo) → slice_get p.tasks.items u ≡ Some def → Closes p x x' u other
+waits_fewer : (p : Program) (x x' : Exchange) (h : List Bool) (u : ℕ) (def : TaskDef) (at : Phase) (other : ReqNo) → slice_get p.tasks.items u ≡ Some def
+    → Closes p x x' u other
     → waits_at p x' h u at + count_by (same_request other) (awaited_at u (Some def) (Some at)) ≡ waits_at p x h u at
 waits_fewer p x x' h u def phase.Waiting other is_def closes = none_more (waits_at p x h u phase.Waiting)
 waits_fewer p x x' h u def (phase.At k) other is_def closes = none_more 0
 waits_fewer p x x' h u def (phase.In k) other is_def closes =
-    subst (λ (o : Option TaskDef). open_count p x' (awaited_at u o (Some (phase.In k))) + count_by (same_request other) (awaited_at u (Some def) (Some (phase.In k))) ≡ open_count p x (awaited_at u o (Some (phase.In k)))) (sym is_def)
+    subst (λ (o : Option TaskDef). open_count p x' (awaited_at u o (Some (phase.In k))) + count_by (same_request other)
+    (awaited_at u (Some def) (Some (phase.In k))) ≡ open_count p x (awaited_at u o (Some (phase.In k)))) (sym is_def)
     (fewer_open p x x' u other (awaited_at u (Some def) (Some (phase.In k))) (awaited_of_task u def (phase.In k)) closes)
 waits_fewer p x x' h u def phase.Ended other is_def closes = none_more 0
 waits_fewer p x x' h u def phase.Returned other is_def closes = none_more 0
 waits_fewer p x x' h u def phase.Released other is_def closes = none_more 1
 
 -- what the book reads of a request, where its task stands
-awaits_is : (p : Program) (phs : List Phase) (u : ℕ) (def : TaskDef) (at : Phase) (other : ReqNo) → other.task.0 ≡ u → slice_get p.tasks.items u ≡ Some def → slice_get phs u ≡ Some at
+awaits_is : (p : Program) (phs : List Phase) (u : ℕ) (def : TaskDef) (at : Phase) (other : ReqNo) → other.task.0 ≡ u → slice_get p.tasks.items u ≡ Some def
+    → slice_get phs u ≡ Some at
     → awaits_now p phs other ≡ list_any (same_request other) (awaited_at u (Some def) (Some at))
 awaits_is p phs u def at other same is_def here =
     ap (λ i. list_any (same_request other) (awaited_at i (slice_get p.tasks.items i) (slice_get phs i))) same
@@ -255,8 +260,10 @@ awaits_is p phs u def at other same is_def here =
 abbrev Told : Program → Exchange → List Bool → List ℕ → ℕ → Phase → Type 0
 Told p x' h ws u at = slice_get ws u ≡ Some (waits_at p x' h u at)
 
-told_one : (p : Program) (h : List Bool) (phs : List Phase) (x x' : Exchange) (ws : List ℕ) (u : ℕ) (def : TaskDef) (at : Phase) (other : ReqNo) (listed : Bool) → WellFormed p → slice_get p.tasks.items u ≡ Some def
-    → slice_get phs u ≡ Some at → slice_get ws u ≡ Some (waits_at p x h u at) → Closes p x x' u other → awaits_now p phs other ≡ listed → Told p x' h (one_less_for ws (cond listed (other ∷ []) [])) u at
+told_one : (p : Program) (h : List Bool) (phs : List Phase) (x x' : Exchange) (ws : List ℕ) (u : ℕ) (def : TaskDef) (at : Phase) (other : ReqNo)
+    (listed : Bool) → WellFormed p → slice_get p.tasks.items u ≡ Some def
+    → slice_get phs u ≡ Some at → slice_get ws u ≡ Some (waits_at p x h u at) → Closes p x x' u other → awaits_now p phs other ≡ listed
+    → Told p x' h (one_less_for ws (cond listed (other ∷ []) [])) u at
 told_one p h phs x x' ws u def at other true well is_def here number closes is =
     let fewer = waits_fewer p x x' h u def at other is_def closes in
     elim (cases_eq other.task.0 u) [
@@ -265,7 +272,8 @@ told_one p h phs x x' ws u def at other true well is_def here number closes is =
           let most = awaited_once p u def at other well is_def in
           let read : get_or ws u 0 ≡ waits_at p x h u at = get_or_from_slice_get ws u (waits_at p x h u at) 0 number in
           let less : get_or ws u 0 - 1 ≡ waits_at p x' h u at = omega arith in
-          ap (λ i. slice_get (slice_set ws i (get_or ws i 0 - 1)) u) same ∙ slice_get-set_same ws u (get_or ws u 0 - 1) (slice_get_within ws u (waits_at p x h u at) number) ∙ ap Some less
+          ap (λ i. slice_get (slice_set ws i (get_or ws i 0 - 1)) u) same
+          ∙ slice_get-set_same ws u (get_or ws u 0 - 1) (slice_get_within ws u (waits_at p x h u at) number) ∙ ap Some less
       | inr apart ↦
           let none = none_of_other u (awaited_at u (Some def) (Some at)) other (awaited_of_task u def at) apart in
           let equal : waits_at p x h u at ≡ waits_at p x' h u at = omega arith in
@@ -286,11 +294,15 @@ told_one p h phs x x' ws u def at other false well is_def here number closes is 
 
 -- the others of a posting of task t
 differs : (t n u : ℕ) (r : ReqNo) → u ≢ t → r.task.0 ≡ u → same_request (request t n) r ≡ false
-differs t n u r other own = false_from_ne_true (same_request (request t n) r) (λ same. other (sym own ∙ sym (ap (λ (q : ReqNo). q.task.0) (one_request (request t n) r same))))
+differs t n u r other own = false_from_ne_true (same_request (request t n) r) (λ same. other (sym own
+    ∙ sym (ap (λ (q : ReqNo). q.task.0) (one_request (request t n) r same))))
 
-told_some : (p : Program) (h : List Bool) (phs : List Phase) (x x' : Exchange) (ws : List ℕ) (t n u : ℕ) (cells : List ℤ) (def : TaskDef) (at : Phase) (other : ReqNo) (alone : Bool) → WellFormed p → slice_get p.tasks.items u ≡ Some def
-    → slice_get phs u ≡ Some at → slice_get ws u ≡ Some (waits_at p x h u at) → u ≢ t → x' ≡ post p x (request t n) cells → partner p x (request t n) cells ≡ Some other
-    → is_complete p x other ≡ alone → is_complete p x' other ≡ true → Told p x' h (one_less_for ws (cond (not alone && awaits_now p phs other) (other ∷ []) [])) u at
+told_some : (p : Program) (h : List Bool) (phs : List Phase) (x x' : Exchange) (ws : List ℕ) (t n u : ℕ) (cells : List ℤ) (def : TaskDef) (at : Phase)
+    (other : ReqNo) (alone : Bool) → WellFormed p → slice_get p.tasks.items u ≡ Some def
+    → slice_get phs u ≡ Some at → slice_get ws u ≡ Some (waits_at p x h u at) → u ≢ t → x' ≡ post p x (request t n) cells
+    → partner p x (request t n) cells ≡ Some other
+    → is_complete p x other ≡ alone → is_complete p x' other ≡ true → Told p x' h
+    (one_less_for ws (cond (not alone && awaits_now p phs other) (other ∷ []) [])) u at
 told_some p h phs x x' ws t n u cells def at other true well is_def here number apart is_after is_partner was now =
     let same : AsBefore p x x' u = λ r own. elim (cases_Bool (same_request other r)) [
       | inl is ↦
@@ -298,7 +310,8 @@ told_some p h phs x x' ws t n u cells def at other true well is_def here number 
           ap (is_complete p x') one ∙ now ∙ sym was ∙ ap (is_complete p x) (sym one)
       | inr differ ↦
           ap (λ (e : Exchange). is_complete p e r) is_after
-          ∙ only_partner p x (request t n) r cells (differs t n u r apart own) (subst (λ found. IfSome found (λ one. same_request one r ≡ false)) (sym is_partner) differ)
+          ∙ only_partner p x (request t n) r cells (differs t n u r apart own)
+          (subst (λ found. IfSome found (λ one. same_request one r ≡ false)) (sym is_partner) differ)
     ] in
     number ∙ ap Some (sym (waits_same p x x' h u def at is_def same))
 told_some p h phs x x' ws t n u cells def at other false well is_def here number apart is_after is_partner was now =
@@ -308,17 +321,21 @@ told_some p h phs x x' ws t n u cells def at other false well is_def here number
       now = now;
       rest = λ r own differ.
           ap (λ (e : Exchange). is_complete p e r) is_after
-          ∙ only_partner p x (request t n) r cells (differs t n u r apart own) (subst (λ found. IfSome found (λ one. same_request one r ≡ false)) (sym is_partner) differ);
+          ∙ only_partner p x (request t n) r cells (differs t n u r apart own)
+          (subst (λ found. IfSome found (λ one. same_request one r ≡ false)) (sym is_partner) differ);
     }) refl
 
-told_others : (p : Program) (h : List Bool) (phs : List Phase) (x x' : Exchange) (ws : List ℕ) (t n u : ℕ) (cells : List ℤ) (def : TaskDef) (at : Phase) (found : Option ReqNo) → WellFormed p → slice_get p.tasks.items u ≡ Some def
-    → slice_get phs u ≡ Some at → slice_get ws u ≡ Some (waits_at p x h u at) → u ≢ t → x' ≡ post p x (request t n) cells → partner p x (request t n) cells ≡ found
+told_others : (p : Program) (h : List Bool) (phs : List Phase) (x x' : Exchange) (ws : List ℕ) (t n u : ℕ) (cells : List ℤ) (def : TaskDef) (at : Phase)
+    (found : Option ReqNo) → WellFormed p → slice_get p.tasks.items u ≡ Some def
+    → slice_get phs u ≡ Some at → slice_get ws u ≡ Some (waits_at p x h u at) → u ≢ t → x' ≡ post p x (request t n) cells
+    → partner p x (request t n) cells ≡ found
     → IfSome found (λ other. is_complete p x other ≡ completes_alone p.eager (posting_of p other)) → IfSome found (λ other. is_complete p x' other ≡ true)
     → Told p x' h (one_less_for ws (noticed_now p phs found)) u at
 told_others p h phs x x' ws t n u cells def at None well is_def here number apart is_after is_partner was now =
     number ∙ ap Some (sym (waits_same p x x' h u def at is_def (λ r own.
     ap (λ (e : Exchange). is_complete p e r) is_after
-    ∙ only_partner p x (request t n) r cells (differs t n u r apart own) (subst (λ found. IfSome found (λ one. same_request one r ≡ false)) (sym is_partner) tt))))
+    ∙ only_partner p x (request t n) r cells (differs t n u r apart own)
+    (subst (λ found. IfSome found (λ one. same_request one r ≡ false)) (sym is_partner) tt))))
 told_others p h phs x x' ws t n u cells def at (Some other) well is_def here number apart is_after is_partner was now =
     told_some p h phs x x' ws t n u cells def at other (completes_alone p.eager (posting_of p other)) well is_def here number apart is_after is_partner was now
 
@@ -336,7 +353,8 @@ one_open p x req = elim (cases_Bool (is_complete p x req)) [
   | inr incomplete ↦ ap {B = ℕ} (λ b. count_by (λ (c : Bool). not c) (b ∷ [])) incomplete ∙ sym (ap {B = ℕ} (λ b. cond b 0 1) incomplete)
 ]
 
-own_waits : (p : Program) (x : Exchange) (h : List Bool) (t k : ℕ) (def : TaskDef) (op : Op) (blocking : Bool) → slice_get p.tasks.items t ≡ Some def → slice_get def.body.items k ≡ Some op
+own_waits : (p : Program) (x : Exchange) (h : List Bool) (t k : ℕ) (def : TaskDef) (op : Op) (blocking : Bool) → slice_get p.tasks.items t ≡ Some def
+    → slice_get def.body.items k ≡ Some op
     → awaited_by t (nth_at def k) (Some op) ≡ cond blocking (request t (nth_at def k) ∷ []) []
     → waits_at p x h t (cond blocking (phase.In k) (stop def (k + 1))) ≡ cond blocking (cond (is_complete p x (request t (nth_at def k))) 0 1) 0
 own_waits p x h t k def op true is_def is_op listed =
@@ -349,38 +367,55 @@ held_after def k true = refl
 held_after def k false = stop_is_held def (k + 1)
 
 -- the counts after the call of a posting
-pub called_counted : (p : Program) (h : List Bool) (phs : List Phase) (x x' : Exchange) (held : ℕ) (ws mid ws' : List ℕ) (t k nth pending number : ℕ) (cells : List ℤ) (def : TaskDef) (op : Op) (blocking : Bool) (found : Option ReqNo) (at : Phase)
-    → WellFormed p → length phs ≡ length p.tasks.items → IsCounted p h phs x held ws → slice_get p.tasks.items t ≡ Some def → slice_get phs t ≡ Some (phase.At k) → slice_get def.body.items k ≡ Some op
-    → awaited_by t (nth_at def k) (Some op) ≡ cond blocking (request t (nth_at def k) ∷ []) [] → nth ≡ nth_at def k → x' ≡ post p x (request t nth) cells → found ≡ partner p x (request t nth) cells
+pub called_counted : (p : Program) (g g' : LetGo) (h : List Bool) (phs : List Phase) (x x' : Exchange) (held : ℕ) (ws mid ws' : List ℕ)
+    (t k nth pending number : ℕ) (cells : List ℤ) (def : TaskDef) (op : Op) (blocking : Bool) (found : Option ReqNo) (at : Phase)
+    → WellFormed p → length phs ≡ length p.tasks.items → IsCounted p g h phs x held ws → GoneMore g g' → slice_get p.tasks.items t ≡ Some def
+    → slice_get phs t ≡ Some (phase.At k) → slice_get def.body.items k ≡ Some op
+    → awaited_by t (nth_at def k) (Some op) ≡ cond blocking (request t (nth_at def k) ∷ []) [] → nth ≡ nth_at def k → x' ≡ post p x (request t nth) cells
+    → found ≡ partner p x (request t nth) cells
     → IfSome found (λ other. is_complete p x other ≡ completes_alone p.eager (posting_of p other)) → IfSome found (λ other. is_complete p x' other ≡ true)
-    → mid ≡ one_less_for ws (noticed_now p phs found) → pending ≡ cond (is_complete p x' (request t nth)) 0 1 → number ≡ cond blocking pending 0 → ws' ≡ slice_set mid t number
-    → at ≡ cond blocking (phase.In k) (stop def (k + 1)) → IsCounted p h (slice_set phs t at) x' held ws'
-called_counted p h phs x x' held ws mid ws' t k nth pending number cells def op blocking found at well count counted is_def here is_op listed is_nth is_after is_found was now is_mid is_pending is_number is_ws is_at =
+    → mid ≡ one_less_for ws (noticed_now p phs found) → pending ≡ cond (is_complete p x' (request t nth)) 0 1 → number ≡ cond blocking pending 0
+    → ws' ≡ slice_set mid t number
+    → at ≡ cond blocking (phase.In k) (stop def (k + 1)) → IsCounted p g' h (slice_set phs t at) x' held ws'
+called_counted p g g' h phs x x' held ws mid ws' t k nth pending number cells def op blocking found at well count counted more is_def here is_op listed
+    is_nth is_after is_found was now is_mid is_pending is_number is_ws is_at =
     let next : Phase = cond blocking (phase.In k) (stop def (k + 1)) in
     let own : number ≡ waits_at p x' h t next =
-    is_number ∙ ap {B = ℕ} (λ n. cond blocking n 0) (is_pending ∙ ap {B = ℕ} (λ n. cond (is_complete p x' (request t n)) 0 1) is_nth) ∙ sym (own_waits p x' h t k def op blocking is_def is_op listed) in
-    subst (λ (q : Phase). IsCounted p h (slice_set phs t q) x' held ws') (sym is_at)
-    (counted_after p h phs x x' held held ws (one_less_for ws (noticed_now p phs found)) ws' t (phase.At k) next counted here refl (length-one_less_for ws (noticed_now p phs found))
+    is_number ∙ ap {B = ℕ} (λ n. cond blocking n 0) (is_pending ∙ ap {B = ℕ} (λ n. cond (is_complete p x' (request t n)) 0 1) is_nth)
+    ∙ sym (own_waits p x' h t k def op blocking is_def is_op listed) in
+    subst (λ (q : Phase). IsCounted p g' h (slice_set phs t q) x' held ws') (sym is_at)
+    (counted_after p g g' h phs x x' held held ws (one_less_for ws (noticed_now p phs found)) ws' t (phase.At k) next counted more here refl
+    (length-one_less_for ws (noticed_now p phs found))
     (λ u at other there.
     let within : u < length p.tasks.items = omega (arith, slice_get_within phs u at there, count) in
-    told_others p h phs x x' ws t nth u cells (get_or p.tasks.items u def) at found well (slice_get-get_or p.tasks.items u def within) there (counted.waits_are u at there) other is_after (sym is_found) was now)
+    told_others p h phs x x' ws t nth u cells (get_or p.tasks.items u def) at found well (slice_get-get_or p.tasks.items u def within) there
+    (counted.waits_are u at there) other is_after (sym is_found) was now)
     (is_ws ∙ ap (λ (z : List ℕ). slice_set z t number) is_mid ∙ ap (slice_set (one_less_for ws (noticed_now p phs found)) t) own)
     (ap (λ n. held + n) (sym (held_one next (held_after def k blocking)))))
 
--- the same in a book's fields
-pub call_counted : (p prog : Program) (w : ℕ) (ready : Readiness) (m : List ℤ) (phs phs' : List Phase) (x x' : Switch) (ns : List ReqNo) (es : List Entry) (ss : List Status) (a b c : ℕ)
-    (here : Record) (t k nth pending number held : ℕ) (ws mid ws' : List ℕ) (def : TaskDef) (how : How) (span : Span) (status : Option Span) (cells : List ℤ) (found : Option ReqNo) (at : Phase)
-    → IsBook p w ready m phs x ns es ss a b c → IsCounted p ready.handed phs x.exchange held ws → (call : Calls p es here t k def how span status) → prog ≡ p → phs' ≡ phs → nth ≡ nth_at def k
-    → x'.program ≡ x.program → x'.exchange ≡ post x.program x.exchange (record { task = task_no t; nth = nth }) cells → found ≡ partner x.program x.exchange (record { task = task_no t; nth = nth }) cells
-    → IfSome found (λ other. is_complete x.program x.exchange other ≡ completes_alone x.program.eager (posting_of x.program other)) → IfSome found (λ other. is_complete x'.program x'.exchange other ≡ true)
-    → mid ≡ one_less_for ws (noticed_now prog phs' found) → pending ≡ cond (is_complete x'.program x'.exchange (record { task = task_no t; nth = nth })) 0 1 → number ≡ cond (blocks how) pending 0 → ws' ≡ slice_set mid t number
-    → at ≡ cond (blocks how) (phase.In k) (stop def (k + 1)) → IsCounted p ready.handed (slice_set phs t at) x'.exchange held ws'
-call_counted p prog w ready m phs phs' x x' ns es ss a b c here t k nth pending number held ws mid ws' def how span status cells found at book counted call same seen is_nth programs posted is_found was now is_mid is_pending is_number is_ws is_at =
-    let after : x'.program ≡ p = programs ∙ book.engine_of in
-    called_counted p ready.handed phs x.exchange x'.exchange held ws mid ws' t k nth pending number cells def (op.Post how span call.peer call.tag call.comm status) (blocks how) found at
-    book.kept.well (phases_counted p w ready m phs x ns es ss a b c book) counted call.is_def (phase_read p w ready m phs x ns es ss a b c t call.was book call.is_task ∙ ap Some call.at) call.is_op refl is_nth
-    (posted ∙ ap (λ (q : Program). post q x.exchange (request t nth) cells) book.engine_of) (is_found ∙ ap (λ (q : Program). partner q x.exchange (request t nth) cells) book.engine_of)
-    (subst (λ (q : Program). IfSome found (λ other. is_complete q x.exchange other ≡ completes_alone q.eager (posting_of q other))) book.engine_of was)
-    (subst (λ (q : Program). IfSome found (λ other. is_complete q x'.exchange other ≡ true)) after now)
-    (is_mid ∙ ap (λ (q : Program). one_less_for ws (noticed_now q phs' found)) same ∙ ap (λ (z : List Phase). one_less_for ws (noticed_now p z found)) seen)
-    (is_pending ∙ ap {B = ℕ} (λ (q : Program). cond (is_complete q x'.exchange (request t nth)) 0 1) after) is_number is_ws is_at
+-- the same in a book's insides
+pub call_counted : (shelf : Shelf) (held : Record) (t k n count number : ℕ) (def : TaskDef) (posting : Posting) (cells : List ℤ) (engine : Switch)
+    (found : Option ReqNo)
+    (prog : Program) (phases : List Phase) (at : Phase) (mid waits : List ℕ) (gone : LetGo)
+    → IsBook shelf → (c : Calls shelf held t k def posting) → Answered shelf held t k n count def posting cells engine found → prog ≡ shelf.program
+    → phases ≡ shelf.phases
+    → mid ≡ one_less_for shelf.waits (noticed_now prog phases found) → number ≡ cond (blocks posting.how) count 0 → waits ≡ slice_set mid t number
+    → at ≡ cond (blocks posting.how) (phase.In k) (stop def (k + 1)) → GoneMore (let_go (state_now shelf).tasks) gone
+    → IsCounted shelf.program gone shelf.ready.handed (slice_set shelf.phases t at) engine.exchange shelf.unreleased waits
+call_counted shelf held t k n count number def posting cells engine found prog phases at mid waits gone book c a same seen is_mid is_number is_ws is_at more =
+    let p : Program = shelf.program in
+    let k_of = book.kept in
+    let old : Exchange = shelf.engine.exchange in
+    let after : engine.program ≡ p = a.program ∙ k_of.engine_of in
+    called_counted p (let_go (state_now shelf).tasks) gone shelf.ready.handed shelf.phases old engine.exchange shelf.unreleased shelf.waits mid waits t k n
+    count number cells def
+    (op.Post posting.how posting.span c.posts.peer c.posts.tag c.posts.comm posting.status) (blocks posting.how) found at
+    k_of.well (phases_counted shelf k_of) book.counted more c.here.is_def
+    (read_at shelf held t def (phase.At k) (phase.At k) k_of c.here c.at) c.posts.is refl a.nth
+    (a.exchange ∙ ap (λ (q : Program). post q old (request t n) cells) k_of.engine_of) (a.partner_is
+    ∙ ap (λ (q : Program). partner q old (request t n) cells) k_of.engine_of)
+    (subst (λ (q : Program). IfSome found (λ other. is_complete q old other ≡ completes_alone q.eager (posting_of q other))) k_of.engine_of a.before)
+    (subst (λ (q : Program). IfSome found (λ other. is_complete q engine.exchange other ≡ true)) after a.completed)
+    (is_mid ∙ ap (λ (q : Program). one_less_for shelf.waits (noticed_now q phases found)) same
+    ∙ ap (λ (z : List Phase). one_less_for shelf.waits (noticed_now p z found)) seen)
+    (a.counted ∙ ap {B = ℕ} (λ (q : Program). cond (is_complete q engine.exchange (request t n)) 0 1) after) is_number is_ws is_at

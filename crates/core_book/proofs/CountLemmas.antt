@@ -1,6 +1,6 @@
 -- What a book counts, before and after a move of a task.
 use Rattle.std.proofs.Common.{◌≡◌, ◌≢◌, ℕ, zero, suc, ◌+◌, ◌<◌, ◌↔◌, Bool, true, false, not, cond, List, [], ◌∷◌, length, drop, get_or, slice_get, slice_set, Option, Some, refl, sym, ap, ◌∙◌, subst, inl, inr, eqb-true, eq-eqb, arith}
-use Rattle.std.specs.Prelude.{All, option_map, replicate, count_by}
+use Rattle.std.specs.Prelude.{All, replicate, count_by}
 use Rattle.std.proofs.lemmas.Bool.{cases_Bool}
 use Rattle.std.proofs.lemmas.List.{length-set, length-replicate}
 use Rattle.std.proofs.lemmas.List.Sums.{sum_by-cons, sum_by-set}
@@ -13,16 +13,17 @@ use Rattle.rt_base.specs.declared.data.Op.TheVariants as op
 use Rattle.rt_base.specs.declared.data.TaskDef.{TaskDef}
 use Rattle.rt_base.specs.declared.data.Program.{Program}
 use Rattle.rt_base.specs.Operations.{awaited}
-use Rattle.rt_base.specs.Precedes.{MayStart}
+use Rattle.rt_base.specs.Precedes.{LetGo, GoneMore, MayStart}
+use Rattle.task_machine.proofs.Growth.{starts_more}
 use Rattle.rt_base.specs.Exchange.{Exchange}
 use Rattle.rt_base.specs.Completion.{is_complete}
-use Rattle.rt_base.specs.State.{State, Task, is_released, let_go_at}
+use Rattle.rt_base.specs.State.{State, Task, is_released}
 use Rattle.rt_base.specs.MayMove.{MayMoveAt, AreComplete}
 use Rattle.task_local.specs.Local.{stop_at, stop}
-use Rattle.core_book.specs.Machine.{awaited_at, open_count}
-use Rattle.core_book.specs.Kept.{IsCounted, is_zero, is_held, waits_at}
-use Rattle.core_book.proofs.Lists.{slice_get-set_same, slice_get-set_other, slice_set_same, slice_get-map}
-use Rattle.core_book.proofs.Lines.{either_place, at_replicate, same_some}
+use Rattle.task_machine.specs.Machine.{awaited_at, open_count}
+use Rattle.core_book.specs.Kept.{IsCounted, is_zero, is_unreleased, waits_at}
+use Rattle.task_machine.proofs.Lists.{slice_get-set_same, slice_get-set_other, slice_set_same}
+use Rattle.task_machine.proofs.Items.{either_place, at_replicate, same_some}
 
 -- a count after one place was written
 pub count-set : {X : Type 0} (f : X → Bool) (xs : List X) (i : ℕ) (was now : X) → slice_get xs i ≡ Some was
@@ -31,42 +32,26 @@ count-set f xs i was now here =
     subst (λ z. count_by f (slice_set xs i now) + cond (f z) 1 0 ≡ count_by f xs + cond (f now) 1 0) (get_or_from_slice_get xs i was was here)
     (sum_by-set (λ z. cond (f z) 1 0) xs i now was (slice_get_within xs i was here))
 
-pub held_one : (at : Phase) → is_released at ≡ false → ◌≡◌ {A = ℕ} (cond (is_held at) 1 0) 1
+pub held_one : (at : Phase) → is_released at ≡ false → ◌≡◌ {A = ℕ} (cond (is_unreleased at) 1 0) 1
 held_one at held = ap {B = ℕ} (λ b. cond (not b) 1 0) held
-
--- a task that may start still may when another moved
-pub may_still : (p : Program) (phs : List Phase) (t u : ℕ) (was now : Phase) → slice_get phs t ≡ Some was → is_released was ≡ false
-    → MayStart p (let_go_at phs) u → MayStart p (let_go_at (slice_set phs t now)) u
-may_still p phs t u was now here held may = record {
-  exists = may.exists;
-  freed = λ v before. elim (either_place v t) [
-    | inl same ↦
-        let gone : Some true ≡ Some (is_released was) =
-        sym (may.freed v before) ∙ slice_get-map is_released phs v ∙ ap (option_map is_released) (ap (slice_get phs) same ∙ here) in
-        absurd (cc (gone, held))
-    | inr other ↦
-        slice_get-map is_released (slice_set phs t now) v ∙ ap (option_map is_released) (slice_get-set_other phs t v now other)
-        ∙ sym (slice_get-map is_released phs v) ∙ may.freed v before
-  ];
-}
 
 -- the phase at a place after one was written
 written : {X : Type 0} (xs : List X) (t : ℕ) (was now at : X) → slice_get xs t ≡ Some was → slice_get (slice_set xs t now) t ≡ Some at → at ≡ now
 written xs t was now at here there = same_some (sym there ∙ slice_get-set_same xs t now (slice_get_within xs t was here))
 
 -- the counts after a move of a task, where the others wait for what they did or were told
-pub counted_after : (p : Program) (h : List Bool) (phs : List Phase) (x x' : Exchange) (n n' : ℕ) (ws mid ws' : List ℕ) (t : ℕ) (was now : Phase)
-    → IsCounted p h phs x n ws → slice_get phs t ≡ Some was → is_released was ≡ false → length mid ≡ length ws
+pub counted_after : (p : Program) (g g' : LetGo) (h : List Bool) (phs : List Phase) (x x' : Exchange) (n n' : ℕ) (ws mid ws' : List ℕ) (t : ℕ) (was now : Phase)
+    → IsCounted p g h phs x n ws → GoneMore g g' → slice_get phs t ≡ Some was → is_released was ≡ false → length mid ≡ length ws
     → ((u : ℕ) (at : Phase) → u ≢ t → slice_get phs u ≡ Some at → slice_get mid u ≡ Some (waits_at p x' h u at))
-    → ws' ≡ slice_set mid t (waits_at p x' h t now) → n' + 1 ≡ n + cond (is_held now) 1 0 → IsCounted p h (slice_set phs t now) x' n' ws'
-counted_after p h phs x x' n n' ws mid ws' t was now counted here held long others is_ws is_n =
+    → ws' ≡ slice_set mid t (waits_at p x' h t now) → n' + 1 ≡ n + cond (is_unreleased now) 1 0 → IsCounted p g' h (slice_set phs t now) x' n' ws'
+counted_after p g g' h phs x x' n n' ws mid ws' t was now counted more here held long others is_ws is_n =
     let within : t < length phs = slice_get_within phs t was here in
     let before : length ws ≡ length phs = counted.long in
     record {
-      held_is =
+      unreleased_is =
           let one = held_one was held in
-          let moved = count-set is_held phs t was now here in
-          let counts = counted.held_is in
+          let moved = count-set is_unreleased phs t was now here in
+          let counts = counted.unreleased_is in
           omega arith;
       long = ap (λ (z : List ℕ). length z) is_ws ∙ length-set mid t (waits_at p x' h t now) ∙ long ∙ before ∙ sym (length-set phs t now);
       waits_are = λ u at there. elim (either_place u t) [
@@ -79,22 +64,22 @@ counted_after p h phs x x' n n' ws mid ws' t was now counted here held long othe
             ap (λ (z : List ℕ). slice_get z u) is_ws ∙ slice_get-set_other mid t u (waits_at p x' h t now) other
             ∙ others u at other (sym (slice_get-set_other phs t u now other) ∙ there)
       ];
-      let_in = λ u handed. may_still p phs t u was now here held (counted.let_in u handed);
+      let_in = λ u handed. starts_more p g g' u more (counted.let_in u handed);
     }
 
 -- a move that changes nothing of what tasks wait for
-pub counted_move : (p : Program) (h : List Bool) (phs : List Phase) (x : Exchange) (n n' : ℕ) (ws ws' : List ℕ) (t : ℕ) (was now : Phase)
-    → IsCounted p h phs x n ws → slice_get phs t ≡ Some was → is_released was ≡ false
-    → ws' ≡ slice_set ws t (waits_at p x h t now) → n' + 1 ≡ n + cond (is_held now) 1 0 → IsCounted p h (slice_set phs t now) x n' ws'
-counted_move p h phs x n n' ws ws' t was now counted here held is_ws is_n =
-    counted_after p h phs x x n n' ws ws ws' t was now counted here held refl (λ u at other there. counted.waits_are u at there) is_ws is_n
+pub counted_move : (p : Program) (g g' : LetGo) (h : List Bool) (phs : List Phase) (x : Exchange) (n n' : ℕ) (ws ws' : List ℕ) (t : ℕ) (was now : Phase)
+    → IsCounted p g h phs x n ws → GoneMore g g' → slice_get phs t ≡ Some was → is_released was ≡ false
+    → ws' ≡ slice_set ws t (waits_at p x h t now) → n' + 1 ≡ n + cond (is_unreleased now) 1 0 → IsCounted p g' h (slice_set phs t now) x n' ws'
+counted_move p g g' h phs x n n' ws ws' t was now counted more here held is_ws is_n =
+    counted_after p g g' h phs x x n n' ws ws ws' t was now counted more here held refl (λ u at other there. counted.waits_are u at there) is_ws is_n
 
 -- a move after which the task still waits for nothing
-pub counted_on : (p : Program) (h : List Bool) (phs : List Phase) (x : Exchange) (n : ℕ) (ws : List ℕ) (t : ℕ) (was now : Phase)
-    → IsCounted p h phs x n ws → slice_get phs t ≡ Some was → is_released was ≡ false → is_released now ≡ false → waits_at p x h t was ≡ 0 → waits_at p x h t now ≡ 0
-    → IsCounted p h (slice_set phs t now) x n ws
-counted_on p h phs x n ws t was now counted here held held' none none' =
-    counted_move p h phs x n n ws ws t was now counted here held
+pub counted_on : (p : Program) (g g' : LetGo) (h : List Bool) (phs : List Phase) (x : Exchange) (n : ℕ) (ws : List ℕ) (t : ℕ) (was now : Phase)
+    → IsCounted p g h phs x n ws → GoneMore g g' → slice_get phs t ≡ Some was → is_released was ≡ false → is_released now ≡ false → waits_at p x h t was ≡ 0
+    → waits_at p x h t now ≡ 0 → IsCounted p g' h (slice_set phs t now) x n ws
+counted_on p g g' h phs x n ws t was now counted more here held held' none none' =
+    counted_move p g g' h phs x n n ws ws t was now counted more here held
     (sym (slice_set_same ws t (waits_at p x h t now) (counted.waits_are t was here ∙ ap Some (none ∙ sym none'))))
     (ap (λ k. n + k) (sym (held_one now held')))
 
@@ -110,7 +95,8 @@ unfolding stop
 stop_waits p x h t def k = stop_at_waits p x h t k (drop k def.body.items)
 
 -- a task that was handed out
-waits_handed : (p : Program) (x : Exchange) (h h' : List Bool) (t : ℕ) (at : Phase) → get_or h' t false ≡ get_or h t false → waits_at p x h' t at ≡ waits_at p x h t at
+waits_handed : (p : Program) (x : Exchange) (h h' : List Bool) (t : ℕ) (at : Phase) → get_or h' t false ≡ get_or h t false
+    → waits_at p x h' t at ≡ waits_at p x h t at
 waits_handed p x h h' t phase.Waiting same = ap {B = ℕ} (λ b. cond b 0 1) same
 waits_handed p x h h' t (phase.At k) same = refl
 waits_handed p x h h' t (phase.In k) same = refl
@@ -126,20 +112,21 @@ get_or-other (y ∷ ys) (suc t) zero b other = refl
 get_or-other (y ∷ ys) (suc t) (suc u) b other = get_or-other ys t u b (λ same. other (ap suc same))
 
 -- the counts after a task was handed out
-pub counted_ready : (p : Program) (h h' : List Bool) (phs : List Phase) (x : Exchange) (n : ℕ) (ws ws' : List ℕ) (t : ℕ)
-    → IsCounted p h phs x n ws → slice_get h t ≡ Some false → slice_get phs t ≡ Some phase.Waiting → MayStart p (let_go_at phs) t
-    → h' ≡ slice_set h t true → ws' ≡ slice_set ws t 0 → IsCounted p h' phs x n ws'
-counted_ready p h h' phs x n ws ws' t counted not_yet waits may is_h is_ws =
+pub counted_ready : (p : Program) (g : LetGo) (h h' : List Bool) (phs : List Phase) (x : Exchange) (n : ℕ) (ws ws' : List ℕ) (t : ℕ)
+    → IsCounted p g h phs x n ws → slice_get h t ≡ Some false → slice_get phs t ≡ Some phase.Waiting → MayStart p g t
+    → h' ≡ slice_set h t true → ws' ≡ slice_set ws t 0 → IsCounted p g h' phs x n ws'
+counted_ready p g h h' phs x n ws ws' t counted not_yet waits may is_h is_ws =
     let within : t < length h = slice_get_within h t false not_yet in
     let place : t < length phs = slice_get_within phs t phase.Waiting waits in
     let long : length ws ≡ length phs = counted.long in
     record {
-      held_is = counted.held_is;
+      unreleased_is = counted.unreleased_is;
       long = ap (λ (z : List ℕ). length z) is_ws ∙ length-set ws t 0 ∙ long;
       waits_are = λ u at there. elim (either_place u t) [
         | inl same ↦
             let is_at : at ≡ phase.Waiting = same_some (sym there ∙ ap (slice_get phs) same ∙ waits) in
-            let now : get_or h' t false ≡ true = get_or_from_slice_get h' t true false (ap (λ (z : List Bool). slice_get z t) is_h ∙ slice_get-set_same h t true within) in
+            let now : get_or h' t false ≡ true = get_or_from_slice_get h' t true false (ap (λ (z : List Bool). slice_get z t) is_h
+            ∙ slice_get-set_same h t true within) in
             subst (λ i. slice_get ws' i ≡ Some (waits_at p x h' i at)) (sym same)
             (subst (λ (q : Phase). slice_get ws' t ≡ Some (waits_at p x h' t q)) (sym is_at)
             (ap (λ (z : List ℕ). slice_get z t) is_ws ∙ slice_get-set_same ws t 0 (omega arith) ∙ ap (λ b. Some (cond b 0 1)) (sym now)))
@@ -148,15 +135,15 @@ counted_ready p h h' phs x n ws ws' t counted not_yet waits may is_h is_ws =
             ∙ ap Some (sym (waits_handed p x h h' u at (ap (λ (z : List Bool). get_or z u false) is_h ∙ get_or-other h t u true other)))
       ];
       let_in = λ u handed. elim (either_place u t) [
-        | inl same ↦ subst (MayStart p (let_go_at phs)) (sym same) may
+        | inl same ↦ subst (MayStart p g) (sym same) may
         | inr other ↦ counted.let_in u (sym (ap (λ (z : List Bool). slice_get z u) is_h ∙ slice_get-set_other h t u true other) ∙ handed)
       ];
     }
 
-count_all : (n : ℕ) → count_by is_held (replicate n phase.Waiting) ≡ n
+count_all : (n : ℕ) → count_by is_unreleased (replicate n phase.Waiting) ≡ n
 count_all zero = refl
 count_all (suc n) =
-    let whole = sum_by-cons (λ (at : Phase). cond (is_held at) 1 0) phase.Waiting (replicate n phase.Waiting) in
+    let whole = sum_by-cons (λ (at : Phase). cond (is_unreleased at) 1 0) phase.Waiting (replicate n phase.Waiting) in
     let rest = count_all n in
     omega arith
 
@@ -168,17 +155,20 @@ of_replicate (suc n) x y (suc t) here =
     (rest.0, omega (arith, rest.1))
 
 -- the counts of a new book
-pub counted_first : (p : Program) (h : List Bool) (phs : List Phase) (x : Exchange) (n : ℕ) (ws : List ℕ)
-    → h ≡ replicate (length p.tasks.items) false → phs ≡ replicate (length p.tasks.items) phase.Waiting → n ≡ length p.tasks.items → ws ≡ replicate (length p.tasks.items) 1
-    → IsCounted p h phs x n ws
-counted_first p h phs x n ws is_h is_phs is_n is_ws =
+pub counted_first : (p : Program) (g : LetGo) (h : List Bool) (phs : List Phase) (x : Exchange) (n : ℕ) (ws : List ℕ)
+    → h ≡ replicate (length p.tasks.items) false → phs ≡ replicate (length p.tasks.items) phase.Waiting → n ≡ length p.tasks.items
+    → ws ≡ replicate (length p.tasks.items) 1
+    → IsCounted p g h phs x n ws
+counted_first p g h phs x n ws is_h is_phs is_n is_ws =
     let tasks = length p.tasks.items in
     record {
-      held_is = is_n ∙ sym (ap (λ (z : List Phase). count_by is_held z) is_phs ∙ count_all tasks);
-      long = ap (λ (z : List ℕ). length z) is_ws ∙ length-replicate tasks 1 ∙ sym (ap (λ (z : List Phase). length z) is_phs ∙ length-replicate tasks phase.Waiting);
+      unreleased_is = is_n ∙ sym (ap (λ (z : List Phase). count_by is_unreleased z) is_phs ∙ count_all tasks);
+      long = ap (λ (z : List ℕ). length z) is_ws ∙ length-replicate tasks 1
+          ∙ sym (ap (λ (z : List Phase). length z) is_phs ∙ length-replicate tasks phase.Waiting);
       waits_are = λ t at here.
           let place = of_replicate tasks phase.Waiting at t (sym (ap (λ (z : List Phase). slice_get z t) is_phs) ∙ here) in
-          let not_yet : get_or h t false ≡ false = get_or_from_slice_get h t false false (ap (λ (z : List Bool). slice_get z t) is_h ∙ at_replicate tasks false t place.1) in
+          let not_yet : get_or h t false ≡ false = get_or_from_slice_get h t false false (ap (λ (z : List Bool). slice_get z t) is_h
+          ∙ at_replicate tasks false t place.1) in
           subst (λ (q : Phase). slice_get ws t ≡ Some (waits_at p x h t q)) (sym place.0)
           (ap (λ (z : List ℕ). slice_get z t) is_ws ∙ at_replicate tasks 1 t place.1 ∙ ap (λ b. Some (cond b 0 1)) (sym not_yet));
       let_in = λ t handed.
@@ -203,7 +193,8 @@ none_incomplete p x (req ∷ reqs) =
     ]
 
 -- a task that was started may move exactly where it waits for nothing
-pub waits_for_none : (p : Program) (s : State) (h : List Bool) (t : ℕ) (def : TaskDef) (task : Task) (at : Phase) → slice_get p.tasks.items t ≡ Some def → task.bound ≡ [] → at ≢ phase.Waiting
+pub waits_for_none : (p : Program) (s : State) (h : List Bool) (t : ℕ) (def : TaskDef) (task : Task) (at : Phase) → slice_get p.tasks.items t ≡ Some def
+    → task.bound ≡ [] → at ≢ phase.Waiting
     → (waits_at p s.exchange h t at ≡ 0) ↔ MayMoveAt p s.tasks s.exchange t def task at
 waits_for_none p s h t def task phase.Waiting is_def unbound started = absurd (started refl)
 waits_for_none p s h t def task (phase.At k) is_def unbound started = (λ none. tt, λ may. refl)
@@ -235,7 +226,7 @@ count_no_zero (w ∷ ws) none =
       | inr other ↦ let no = ap {B = ℕ} (λ b. cond b 1 0) other in omega arith
     ]
 
-released_if : (at : Phase) → is_held at ≡ false → at ≡ phase.Released
+released_if : (at : Phase) → is_unreleased at ≡ false → at ≡ phase.Released
 released_if phase.Waiting gone = absurd (cc)
 released_if (phase.At k) gone = absurd (cc)
 released_if (phase.In k) gone = absurd (cc)
@@ -244,22 +235,22 @@ released_if phase.Returned gone = absurd (cc)
 released_if phase.Released gone = refl
 
 -- no task is held exactly where all are released
-pub all_gone : (phs : List Phase) → count_by is_held phs ≡ 0 → (k : ℕ) (d : Phase) → k < length phs → get_or phs k d ≡ phase.Released
+pub all_gone : (phs : List Phase) → count_by is_unreleased phs ≡ 0 → (k : ℕ) (d : Phase) → k < length phs → get_or phs k d ≡ phase.Released
 all_gone [] none k d lt = absurd (omega arith)
 all_gone (at ∷ phs) none zero d lt =
-    let whole = sum_by-cons (λ (q : Phase). cond (is_held q) 1 0) at phs in
-    elim (cases_Bool (is_held at)) [
+    let whole = sum_by-cons (λ (q : Phase). cond (is_unreleased q) 1 0) at phs in
+    elim (cases_Bool (is_unreleased at)) [
       | inl held ↦ let one = ap {B = ℕ} (λ b. cond b 1 0) held in absurd (omega arith)
       | inr gone ↦ released_if at gone
     ]
 all_gone (at ∷ phs) none (suc k) d lt =
-    let whole = sum_by-cons (λ (q : Phase). cond (is_held q) 1 0) at phs in
+    let whole = sum_by-cons (λ (q : Phase). cond (is_unreleased q) 1 0) at phs in
     all_gone phs (omega arith) k d (omega arith)
 
-pub none_held : (phs : List Phase) → All (λ at. at ≡ phase.Released) phs → count_by is_held phs ≡ 0
-none_held [] all = refl
-none_held (at ∷ phs) all =
-    let whole = sum_by-cons (λ (q : Phase). cond (is_held q) 1 0) at phs in
-    let first = ap {B = ℕ} (λ (q : Phase). cond (is_held q) 1 0) (all zero at (omega arith)) in
-    let rest = none_held phs (λ k d lt. all (suc k) d (omega arith)) in
+pub none_unreleased : (phs : List Phase) → All (λ at. at ≡ phase.Released) phs → count_by is_unreleased phs ≡ 0
+none_unreleased [] all = refl
+none_unreleased (at ∷ phs) all =
+    let whole = sum_by-cons (λ (q : Phase). cond (is_unreleased q) 1 0) at phs in
+    let first = ap {B = ℕ} (λ (q : Phase). cond (is_unreleased q) 1 0) (all zero at (omega arith)) in
+    let rest = none_unreleased phs (λ k d lt. all (suc k) d (omega arith)) in
     omega arith

@@ -1,11 +1,10 @@
-pub mod Runs
-pub mod Rows
-pub mod Lists
-pub mod Moves
+pub mod Few
 pub mod After
 pub mod Stops
 pub mod Opening
 pub mod Changes
+pub mod Moved
+pub mod Held
 pub mod BookLemmas
 pub mod BookMoves
 pub mod Questions
@@ -16,8 +15,4 @@ pub mod CallLemmas
 pub mod Numbers
 pub mod CountCalls
 pub mod LeaveLemmas
-pub mod Others
-pub mod Lines
-pub mod Before
-pub mod Picks
-pub mod Calls
+pub mod Insides

@@ -1,6 +1,6 @@
 -- What a book answers of its tasks, in terms of its fields.
 use Rattle.std.proofs.Common.{◌≡◌, ℕ, ◌+◌, ◌<◌, ◌≤◌, ◌↔◌, Bool, true, false, ◌||◌, cond, List, [], ◌∷◌, length, map, slice_get, get_or, Some, None, Option, IsTrue, refl, sym, ap, ◌∙◌, subst, All, below_more, arith}
-use Rattle.std.specs.Prelude.{ℤ, option_map, ◌==◌, ◌&&◌}
+use Rattle.std.specs.Prelude.{option_map, ◌==◌, ◌&&◌}
 use Rattle.std.specs.List.{list_any}
 use Rattle.std.proofs.lemmas.Bool.Decides.{nat_tests}
 use Rattle.std.proofs.lemmas.Option.{slice_get_within, slice_get_read, slice_get-get_or, slice_get_past}
@@ -10,7 +10,6 @@ use Rattle.std.proofs.Math.ListN.{get_or-map}
 use Rattle.rt_base.specs.declared.data.ReqNo.{ReqNo}
 use Rattle.rt_base.specs.declared.data.Phase.{Phase}
 use Rattle.rt_base.specs.declared.data.Phase.TheVariants as phase
-use Rattle.rt_base.specs.declared.data.Status.{Status}
 use Rattle.rt_base.specs.declared.data.Op.{Op}
 use Rattle.rt_base.specs.declared.data.Entry.{Entry}
 use Rattle.rt_base.specs.declared.data.TaskDef.{TaskDef}
@@ -20,15 +19,14 @@ use Rattle.rt_base.specs.Matching.{same_request}
 use Rattle.rt_base.specs.Precedes.{LetGo, MayStart}
 use Rattle.rt_base.specs.State.{State, Task, let_go}
 use Rattle.rt_base.specs.MayMove.{MayMove, MayMoveAt}
-use Rattle.match_engine.specs.Switch.{Switch}
-use Rattle.region_deps.specs.Readiness.{Readiness}
 use Rattle.task_local.specs.Standing.{no_task}
-use Rattle.core_book.specs.Legal.{final, IsQuiet, IsFinished}
+use Rattle.task_machine.specs.Machine.{awaited_at}
+use Rattle.task_machine.proofs.Lists.{slice_get-map}
+use Rattle.task_machine.specs.Legal.{final, IsQuiet, IsFinished, phases_of}
 use Rattle.core_book.specs.Ledger.{Ledger}
-use Rattle.core_book.specs.Kept.{IsBook, awaits_now}
-use Rattle.core_book.specs.Machine.{awaited_at}
-use Rattle.core_book.proofs.Lists.{slice_get-map}
-use Rattle.core_book.proofs.BookLemmas.{gone_of}
+use Rattle.core_book.specs.Kept.{Shelf, KeepsState, state_now, awaits_now}
+use Rattle.core_book.proofs.Moved.{ledger_of}
+use Rattle.core_book.proofs.Held.{same_program, theirs, phases_counted}
 
 same_item : {X : Type 0} {a b : X} → Some a ≡ Some b → a ≡ b
 same_item e = cc
@@ -51,15 +49,15 @@ standing_of : (found : Option Task) (at : Phase) → option_map (λ (z : Task). 
 standing_of None at is = absurd (cc)
 standing_of (Some task) at is = (task, refl, cc)
 
-pub standing : (p : Program) (w : ℕ) (ready : Readiness) (m : List ℤ) (phs : List Phase) (x : Switch) (ns : List ReqNo) (es : List Entry) (ss : List Status) (a b c : ℕ) (t : ℕ) (at : Phase)
-    → IsBook p w ready m phs x ns es ss a b c → slice_get phs t ≡ Some at → Standing (final p es) t at
-standing p w ready m phs x ns es ss a b c t at book here =
-    let found = standing_of (slice_get (final p es).tasks t) at
-    (sym (slice_get-map (λ (z : Task). z.phase) (final p es).tasks t) ∙ ap (λ (z : List Phase). slice_get z t) (sym book.kept.phases_are) ∙ here) in
+pub standing : (shelf : Shelf) (t : ℕ) (at : Phase) → KeepsState shelf → slice_get shelf.phases t ≡ Some at → Standing (state_now shelf) t at
+standing shelf t at k here =
+    let found = standing_of (slice_get (state_now shelf).tasks t) at
+    (sym (slice_get-map (λ (z : Task). z.phase) (state_now shelf).tasks t) ∙ ap (λ (z : List Phase). slice_get z t) (sym k.phases_are) ∙ here) in
     record { task = found.0; is_task = found.1; stands = found.2 }
 
 -- a task may move exactly as its phase says
-pub may_move_is : (p : Program) (s : State) (t : ℕ) (def : TaskDef) (at : Phase) (here : Standing s t at) → slice_get p.tasks.items t ≡ Some def → (result : Bool)
+pub may_move_is : (p : Program) (s : State) (t : ℕ) (def : TaskDef) (at : Phase) (here : Standing s t at) → slice_get p.tasks.items t ≡ Some def
+    → (result : Bool)
     → (IsTrue result ↔ MayMoveAt p s.tasks s.exchange t def here.task at) → IsTrue result ↔ MayMove p s t
 may_move_is p s t def at here is_def result answer = (
   λ yes. record {
@@ -77,20 +75,15 @@ may_move_is p s t def at here is_def result answer = (
       (subst (λ (d : TaskDef). MayMoveAt p s.tasks s.exchange t d may.task may.task.phase) one_def may.enabled))),
 )
 
--- the answer in the caller's terms
-pub answers_for : (l : Ledger) (p prog : Program) (w : ℕ) (es : List Entry) (ss : List Status) (handed : List Bool) (t : ℕ) (result : Bool)
-    → record { program = p; workers = w; history = es; statuses = ss; handed = handed } ≡ l → prog ≡ l.program
-    → (IsTrue result ↔ MayMove p (final p es) t) → IsTrue result ↔ MayMove prog (final prog l.history) t
-answers_for l p prog w es ss handed t result view same answer =
-    let programs : prog ≡ p = same ∙ sym (ap (λ (z : Ledger). z.program) view) in
-    let histories : es ≡ l.history = ap (λ (z : Ledger). z.history) view in
-    subst (λ (z : Program). IsTrue result ↔ MayMove z (final z l.history) t) (sym programs) (subst (λ (z : List Entry). IsTrue result ↔ MayMove p (final p z) t) histories answer)
+-- what the graph says of a task is what the machine's state says of it
+pub gone_of : (shelf : Shelf) → KeepsState shelf → shelf.ready.gone ≡ let_go (state_now shelf).tasks
+gone_of shelf k = ap (λ (r : List Bool). record { released = r }) k.gone_is
 
-pub waiting_answer : (p : Program) (w : ℕ) (ready : Readiness) (m : List ℤ) (phs : List Phase) (x : Switch) (ns : List ReqNo) (es : List Entry) (ss : List Status) (a b c : ℕ) (t : ℕ) (result : Bool)
-    → IsBook p w ready m phs x ns es ss a b c → (IsTrue result ↔ MayStart ready.program ready.gone t) → IsTrue result ↔ MayStart p (let_go (final p es).tasks) t
-waiting_answer p w ready m phs x ns es ss a b c t result book answer =
-    subst (λ (g : LetGo). IsTrue result ↔ MayStart p g t) (gone_of p w ready m phs x ns es ss a b c book)
-    (subst (λ (q : Program). IsTrue result ↔ MayStart q ready.gone t) book.of_program answer)
+pub waiting_answer : (shelf : Shelf) (t : ℕ) (result : Bool) → KeepsState shelf → (IsTrue result ↔ MayStart shelf.ready.program shelf.ready.gone t)
+    → IsTrue result ↔ MayStart shelf.program (let_go (state_now shelf).tasks) t
+waiting_answer shelf t result k answer =
+    subst (λ (g : LetGo). IsTrue result ↔ MayStart shelf.program g t) (gone_of shelf k)
+    (subst (λ (q : Program). IsTrue result ↔ MayStart q shelf.ready.gone t) k.of_program answer)
 
 longer_map : (tasks : List Task) (k : ℕ) → k < length tasks → k < length (map (λ (z : Task). z.phase) tasks)
 longer_map tasks k within = omega (arith, length-map tasks (λ (z : Task). z.phase))
@@ -102,36 +95,33 @@ released_tasks tasks all = λ k d within.
 released_phases : (tasks : List Task) → All (λ (z : Task). z.phase ≡ phase.Released) tasks → All (λ at. at ≡ phase.Released) (map (λ (z : Task). z.phase) tasks)
 released_phases tasks all = All-map (λ at. at ≡ phase.Released) (λ (z : Task). z.phase) tasks all
 
-pub phases_counted : (p : Program) (w : ℕ) (ready : Readiness) (m : List ℤ) (phs : List Phase) (x : Switch) (ns : List ReqNo) (es : List Entry) (ss : List Status) (a b c : ℕ)
-    → IsBook p w ready m phs x ns es ss a b c → length phs ≡ length p.tasks.items
-phases_counted p w ready m phs x ns es ss a b c book =
-    ap (λ (z : List Phase). length z) book.kept.phases_are ∙ length-map (final p es).tasks (λ (z : Task). z.phase) ∙ book.kept.orderly.counted
-
 -- whether a task may move, by the phase that is read
-pub can_move_answer : (p prog : Program) (w : ℕ) (ready : Readiness) (m : List ℤ) (phs : List Phase) (x : Switch) (ns : List ReqNo) (es : List Entry) (ss : List Status) (a b c : ℕ) (t : ℕ) (at found : Phase) (result : Bool) (l : Ledger)
-    → IsBook p w ready m phs x ns es ss a b c → record { program = p; workers = w; history = es; statuses = ss; handed = ready.handed } ≡ l → prog ≡ l.program → t < length prog.tasks.items
-    → found ≡ get_or phs t found → found ≡ at
-    → ((def : TaskDef) (task : Task) → slice_get p.tasks.items t ≡ Some def → slice_get (final p es).tasks t ≡ Some task → IsTrue result ↔ MayMoveAt p (final p es).tasks (final p es).exchange t def task at)
+pub can_move_answer : (shelf : Shelf) (t : ℕ) (at found : Phase) (result : Bool) (l : Ledger) (prog : Program) → KeepsState shelf → ledger_of shelf ≡ l
+    → prog ≡ l.program
+    → t < length prog.tasks.items → found ≡ get_or shelf.phases t found → found ≡ at
+    → ((def : TaskDef) (task : Task) → slice_get shelf.program.tasks.items t ≡ Some def → slice_get (state_now shelf).tasks t ≡ Some task
+    → IsTrue result ↔ MayMoveAt shelf.program (state_now shelf).tasks (state_now shelf).exchange t def task at)
     → IsTrue result ↔ MayMove prog (final prog l.history) t
-can_move_answer p prog w ready m phs x ns es ss a b c t at found result l book view same exists read is answer =
-    let programs : prog ≡ p = same ∙ sym (ap (λ (z : Ledger). z.program) view) in
-    let within : t < length p.tasks.items = subst (λ (z : Program). t < length z.tasks.items) programs exists in
-    let count = phases_counted p w ready m phs x ns es ss a b c book in
-    let here : slice_get phs t ≡ Some at = slice_get_read phs (length p.tasks.items) t found (sym count) within read ∙ ap Some is in
-    let stands = standing p w ready m phs x ns es ss a b c t at book here in
+can_move_answer shelf t at found result l prog k view same exists read is answer =
+    let p : Program = shelf.program in
+    let within : t < length p.tasks.items = subst (λ (z : Program). t < length z.tasks.items) (same_program shelf l prog view same) exists in
+    let here : slice_get shelf.phases t ≡ Some at =
+    slice_get_read shelf.phases (length p.tasks.items) t found (sym (phases_counted shelf k)) within read ∙ ap Some is in
+    let stands = standing shelf t at k here in
     let is_def = slice_get-get_or p.tasks.items t no_task within in
-    answers_for l p prog w es ss ready.handed t result view same
-    (may_move_is p (final p es) t (get_or p.tasks.items t no_task) at stands is_def result (answer (get_or p.tasks.items t no_task) stands.task is_def stands.is_task))
+    theirs (λ (q : Program) (es : List Entry). IsTrue result ↔ MayMove q (final q es) t) shelf l prog view same
+    (may_move_is p (state_now shelf) t (get_or p.tasks.items t no_task) at stands is_def result
+    (answer (get_or p.tasks.items t no_task) stands.task is_def stands.is_task))
 
 -- where all are released, by the phases
-pub finished_answer : (p : Program) (w : ℕ) (ready : Readiness) (m : List ℤ) (phs phs' : List Phase) (x : Switch) (ns : List ReqNo) (es : List Entry) (ss : List Status) (a b c : ℕ) (result : Bool) (l : Ledger)
-    → IsBook p w ready m phs x ns es ss a b c → record { program = p; workers = w; history = es; statuses = ss; handed = ready.handed } ≡ l
-    → phs' ≡ phs → (IsTrue result ↔ All (λ at. at ≡ phase.Released) phs') → IsTrue result ↔ IsFinished (final l.program l.history)
-finished_answer p w ready m phs phs' x ns es ss a b c result l book view seen answer =
-    let own : IsTrue result ↔ All (λ at. at ≡ phase.Released) (map (λ (z : Task). z.phase) (final p es).tasks) =
-    subst (λ (z : List Phase). IsTrue result ↔ All (λ at. at ≡ phase.Released) z) (seen ∙ book.kept.phases_are) answer in
+pub finished_answer : (shelf : Shelf) (result : Bool) (l : Ledger) → KeepsState shelf → ledger_of shelf ≡ l
+    → (IsTrue result ↔ All (λ at. at ≡ phase.Released) shelf.phases)
+    → IsTrue result ↔ IsFinished (final l.program l.history)
+finished_answer shelf result l k view answer =
+    let own : IsTrue result ↔ All (λ at. at ≡ phase.Released) (phases_of (state_now shelf).tasks) =
+    subst (λ (z : List Phase). IsTrue result ↔ All (λ at. at ≡ phase.Released) z) k.phases_are answer in
     subst (λ (z : Ledger). IsTrue result ↔ IsFinished (final z.program z.history)) view
-    (λ yes. released_tasks (final p es).tasks (own.0 yes), λ all. own.1 (released_phases (final p es).tasks all))
+    (λ yes. released_tasks (state_now shelf).tasks (own.0 yes), λ all. own.1 (released_phases (state_now shelf).tasks all))
 
 -- the tasks before a place can't move
 abbrev pub NoneBefore : Program → State → ℕ → Type 0
@@ -149,13 +139,15 @@ pub none_before_more : (p : Program) (s : State) (t : ℕ) → NoneBefore p s t 
 none_before_more p s t none here = below_more (λ u. MayMove p s u → ⊥) t none here
 
 -- a request among those that an operation awaits
-pub awaited_among : (def : TaskDef) (k : ℕ) (x : Op) (req : ReqNo) (result : Bool) → slice_get def.body.items k ≡ Some x → result ≡ list_any (same_request req) (awaited_by req.task.0 (nth_at def k) (Some x))
+pub awaited_among : (def : TaskDef) (k : ℕ) (x : Op) (req : ReqNo) (result : Bool) → slice_get def.body.items k ≡ Some x
+    → result ≡ list_any (same_request req) (awaited_by req.task.0 (nth_at def k) (Some x))
     → result ≡ list_any (same_request req) (awaited req.task.0 def k)
 awaited_among def k x req result here is = is ∙ ap (λ (reqs : List ReqNo). list_any (same_request req) reqs) (sym (awaited_is req.task.0 def k x here))
 
 pub none_among_past : (def : TaskDef) (k : ℕ) (req : ReqNo) → length def.body.items ≤ k → false ≡ list_any (same_request req) (awaited req.task.0 def k)
 unfolding awaited
-none_among_past def k req past = ap (λ (o : Option Op). list_any (same_request req) (awaited_by req.task.0 (nth_at def k) o)) (sym (slice_get_past def.body.items k past))
+none_among_past def k req past = ap (λ (o : Option Op). list_any (same_request req) (awaited_by req.task.0 (nth_at def k) o))
+    (sym (slice_get_past def.body.items k past))
 
 one_nth : (t n m : ℕ) → (n == m) ≡ (((t == t) && (m == n)) || false)
 one_nth t n m = grind (arith, nat_tests)
@@ -164,7 +156,8 @@ same_nth : (req : ReqNo) (n : ℕ) → (n == req.nth) ≡ list_any (same_request
 same_nth req n = one_nth req.task.0 n req.nth
 
 -- of one request that is awaited only where the operation blocks
-pub one_among : (req : ReqNo) (n : ℕ) (blocking : Bool) (result : Bool) → result ≡ (blocking && (n == req.nth)) → result ≡ list_any (same_request req) (cond blocking (request req.task.0 n ∷ []) [])
+pub one_among : (req : ReqNo) (n : ℕ) (blocking : Bool) (result : Bool) → result ≡ (blocking && (n == req.nth))
+    → result ≡ list_any (same_request req) (cond blocking (request req.task.0 n ∷ []) [])
 one_among req n true result is = is ∙ same_nth req n
 one_among req n false result is = is
 
@@ -190,13 +183,17 @@ awaits_none req (Some def) phase.Released out = refl
 pub phase_at_place : (phs : List Phase) (t : ℕ) (at : Phase) → t < length phs → get_or phs t phase.Waiting ≡ at → slice_get phs t ≡ Some at
 phase_at_place phs t at within read = slice_get-get_or phs t phase.Waiting within ∙ ap Some read
 
-pub awaits_nothing : (p : Program) (phs : List Phase) (req : ReqNo) (at : Phase) → req.task.0 < length phs → get_or phs req.task.0 phase.Waiting ≡ at → is_in at ≡ false → false ≡ awaits_now p phs req
+pub awaits_nothing : (p : Program) (phs : List Phase) (req : ReqNo) (at : Phase) → req.task.0 < length phs → get_or phs req.task.0 phase.Waiting ≡ at
+    → is_in at ≡ false → false ≡ awaits_now p phs req
 awaits_nothing p phs req at within read out =
     awaits_none req (slice_get p.tasks.items req.task.0) at out
-    ∙ ap (λ (q : Option Phase). list_any (same_request req) (awaited_at req.task.0 (slice_get p.tasks.items req.task.0) q)) (sym (phase_at_place phs req.task.0 at within read))
+    ∙ ap (λ (q : Option Phase). list_any (same_request req) (awaited_at req.task.0 (slice_get p.tasks.items req.task.0) q))
+    (sym (phase_at_place phs req.task.0 at within read))
 
-pub awaits_there : (p : Program) (phs : List Phase) (req : ReqNo) (k : ℕ) (def : TaskDef) (result : Bool) → req.task.0 < length phs → get_or phs req.task.0 phase.Waiting ≡ phase.In k → slice_get p.tasks.items req.task.0 ≡ Some def
+pub awaits_there : (p : Program) (phs : List Phase) (req : ReqNo) (k : ℕ) (def : TaskDef) (result : Bool) → req.task.0 < length phs
+    → get_or phs req.task.0 phase.Waiting ≡ phase.In k → slice_get p.tasks.items req.task.0 ≡ Some def
     → result ≡ list_any (same_request req) (awaited req.task.0 def k) → result ≡ awaits_now p phs req
 awaits_there p phs req k def result within read is_def is =
     is ∙ ap (λ (o : Option TaskDef). list_any (same_request req) (awaited_at req.task.0 o (Some (phase.In k)))) (sym is_def)
-    ∙ ap (λ (q : Option Phase). list_any (same_request req) (awaited_at req.task.0 (slice_get p.tasks.items req.task.0) q)) (sym (phase_at_place phs req.task.0 (phase.In k) within read))
+    ∙ ap (λ (q : Option Phase). list_any (same_request req) (awaited_at req.task.0 (slice_get p.tasks.items req.task.0) q))
+    (sym (phase_at_place phs req.task.0 (phase.In k) within read))

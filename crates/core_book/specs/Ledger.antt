@@ -1,5 +1,5 @@
 -- What contracts see of a book, and what each of its moves does.
-use Rattle.std.specs.Prelude.{◌≡◌, ℕ, List, [], ◌∷◌, ◌++◌, Bool, false, replicate, length, slice_get, Option, Some, None, ⊤, true}
+use Rattle.std.specs.Prelude.{◌≡◌, ℕ, ◌+◌, ◌^◌, ◌<◌, List, [], ◌∷◌, ◌++◌, Bool, false, replicate, length, slice_get, Option, Some, None, option_map, unwrap_or, ⊤, true, if◌then◌else◌}
 use Rattle.rt_base.specs.declared.data.Op.{Op}
 use Rattle.rt_base.specs.declared.data.Op.TheVariants as op
 use Rattle.rt_base.specs.declared.data.Phase.{Phase}
@@ -11,10 +11,14 @@ use Rattle.rt_base.specs.declared.data.Entry.TheVariants as entry
 use Rattle.rt_base.specs.declared.data.Program.{Program}
 use Rattle.rt_base.specs.Operations.{blocks}
 use Rattle.rt_base.specs.Precedes.{MayStart}
-use Rattle.rt_base.specs.State.{let_go}
+use Rattle.rt_base.specs.State.{State, Task, let_go}
+use Rattle.task_local.specs.Regions.{loaded}
+use Rattle.task_local.specs.Waits.{taken, taken_at_release}
 use Rattle.task_local.specs.StandsFor.{Record, StandsFor}
-use Rattle.core_book.specs.Machine.{move}
-use Rattle.core_book.specs.Legal.{final}
+use Rattle.task_local.specs.Standing.{def, phase_before}
+use Rattle.task_machine.specs.Machine.{move}
+use Rattle.task_machine.specs.Legal.{final}
+use Rattle.task_machine.specs.Laws.{is_blocking_call}
 
 -- a book: the program and the number of workers for which it was built, the history so far, and which tasks were handed out
 pub record Ledger : Type 0 where
@@ -38,15 +42,42 @@ new_ledger program workers = record {
 abbrev pub IsReady : Ledger → ℕ → Type 0
 IsReady book t = (slice_get book.handed t ≡ Some false) × MayStart book.program (let_go (final book.program book.history).tasks) t
 
--- the book has made the move of the record's task, and the record stands for the task in the state after it
+-- the operations by which task t bound requests, none where there is no such task
+abbrev pub named_at : List Task → ℕ → List ℕ
+named_at tasks t = unwrap_or (option_map (λ (task : Task). task.named) (slice_get tasks t)) []
+
+-- where a call of operation k leaves its record: in the operation where it blocks, and else before the next one
+abbrev pub phase_after_call : TaskDef → ℕ → Phase
+phase_after_call def k = if is_blocking_call (slice_get def.body.items k) then phase.In k else phase_before def (k + 1)
+
+-- the record after the move of its task, which stands there: what the move stored is in its copy, and the local operations that come next have not run
+abbrev pub record_at : Program → State → TaskDef → Record → Phase → Record
+record_at program state def held phase.Waiting = record held { phase = phase_before def 0; copy = loaded program def state.memory }
+record_at program state def held (phase.At k) = record held { phase = phase_after_call def k }
+record_at program state def held (phase.In k) =
+    record held { phase = phase_before def (k + 1); copy = taken program state.exchange held.task def k held.copy }
+record_at program state def held phase.Ended = record held { phase = phase.Returned }
+record_at program state def held phase.Returned =
+    record held { phase = phase.Released; copy = taken_at_release program state.exchange held.task def (named_at state.tasks held.task) held.copy }
+record_at program state def held phase.Released = held
+
+-- the same, from where the record stands
+abbrev pub record_after : Program → State → Record → Record
+record_after program state held = record_at program state (def held) held held.phase
+
+-- the book has made the move of the record's task: the state is that after the move, and the record stands for the task in it,
+-- before the local operations that come next. The history is short: its length is a 32-bit number
 pub record MakesMove (old new : Ledger) (before after : Record) : Type 0 where
   pub entry : new.history ≡ old.history ++ (move old.program (final old.program old.history) before.task).entry ∷ []
+  pub state : final old.program new.history ≡ (move old.program (final old.program old.history) before.task).state
   pub statuses : new.statuses ≡ (final old.program new.history).statuses
   pub program : new.program ≡ old.program
   pub workers : new.workers ≡ old.workers
   pub handed : new.handed ≡ old.handed
+  pub short : length new.history < 2 ^ 32
   pub task : after.task ≡ before.task
   pub stands : StandsFor old.program after (final old.program new.history)
+  pub left : after ≡ record_after old.program (final old.program old.history) before
 
 -- the operation posts a request
 abbrev pub IsPosting : Option Op → Type 0

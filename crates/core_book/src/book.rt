@@ -5,9 +5,9 @@ ghost use Rattle.rt_base.specs.declared.data.Phase.TheVariants as phase;
 ghost use Rattle.rt_base.specs.WellFormed.{WellFormed};
 ghost use Rattle.rt_base.specs.MayMove.{MayMove};
 ghost use Rattle.task_local.specs.StandsFor.{StandsFor};
-ghost use Rattle.core_book.specs.Legal.{final, phases_of, IsLegal, IsQuiet, IsFinished};
+ghost use Rattle.task_machine.specs.Legal.{final, phases_of, IsLegal, IsQuiet, IsFinished};
 ghost use Rattle.task_local.specs.Standing.{def, packed_next};
-ghost use Rattle.core_book.specs.Machine.{move};
+ghost use Rattle.task_machine.specs.Machine.{move};
 ghost use Rattle.core_book.specs.Ledger.{MakesMove, IsReady, IsAtPosting, IsInPosting, LeavesPending, new_ledger};
 
 use crate::counts::Counts;
@@ -48,7 +48,7 @@ pub struct Book {
     entries: Vec<Entry>,
     statuses: Vec<Status>,
     // How many tasks are not released.
-    held: usize,
+    unreleased: usize,
     // For how many things each task waits before its next move.
     waits: Counts,
     // How many requests each task has posted.
@@ -58,7 +58,7 @@ pub struct Book {
 impl Model for Book {
     ghost use Rattle.std.specs.Prelude.{vec_capacity};
     ghost use Rattle.core_book.specs.Ledger.{Ledger};
-    ghost use Rattle.core_book.specs.Kept.{IsBook, IsCounted, IsNumbered};
+    ghost use Rattle.core_book.specs.Kept.{IsBook};
 
     ghost Value = { Ledger };
 
@@ -70,10 +70,23 @@ impl Model for Book {
       handed = b.deps.handed;
     } };
 
-    ghost invariant = { λ b. IsBook b.program.value b.workers b.deps b.memory.items b.phases.items b.engine b.notices.items
-        b.entries.items b.statuses.items (vec_capacity b.entries) (vec_capacity b.statuses) (vec_capacity b.notices)
-        × IsCounted b.program.value b.deps.handed b.phases.items b.engine.exchange b.held b.waits
-        × IsNumbered b.program.value b.phases.items b.posted };
+    ghost invariant = { λ b. IsBook (record {
+      program = b.program.value;
+      workers = b.workers;
+      ready = b.deps;
+      engine = b.engine;
+      memory = b.memory.items;
+      phases = b.phases.items;
+      notices = b.notices.items;
+      entries = b.entries.items;
+      statuses = b.statuses.items;
+      unreleased = b.unreleased;
+      waits = b.waits;
+      posted = b.posted;
+      entry_places = vec_capacity b.entries;
+      status_places = vec_capacity b.statuses;
+      notice_places = vec_capacity b.notices;
+    }) };
 }
 
 impl Book {
@@ -94,7 +107,7 @@ impl Book {
             notices: Vec::with_capacity(alloc, moves)?,
             entries: Vec::with_capacity(alloc, moves)?,
             statuses: Vec::with_capacity(alloc, moves)?,
-            held: prog.tasks.len(),
+            unreleased: prog.tasks.len(),
             waits: Counts::ones(alloc, prog.tasks.len())?,
             posted: Posted::none(alloc, prog.tasks.len())?,
         })
@@ -112,8 +125,8 @@ impl Book {
         Some(task)
     }
 
-    /// The task starts, with a copy of its cells. Takes no memory. Its time grows with the task's accesses and cells, with the arrays before the last that
-    /// it names, and with the local operations that come first.
+    /// The task starts, with a copy of its cells. Takes no memory. Its time grows with the task's accesses and cells, and with the local operations
+    /// that come first.
     pub fn start(&mut self, prog: &Program, rec: &mut TaskRec)
         requires well_formed { WellFormed prog.now }
         requires same { prog.now ≡ self.old.program }
@@ -230,8 +243,7 @@ impl Book {
     }
 
     /// The task lets go of its accesses: its written cells are put back, and the tasks that waited for it may start.
-    /// Takes no memory. Its time grows with the task's accesses, with the cells that it writes and the arrays before the last of them, and with the links
-    /// of its accesses, and of its group where it is the last of that.
+    /// Takes no memory. Its time grows with the task's accesses and cells, and with the links of its accesses, and of its group where it is the last of that.
     pub fn release(&mut self, prog: &Program, rec: &mut TaskRec)
         requires well_formed { WellFormed prog.now }
         requires same { prog.now ≡ self.old.program }
@@ -245,7 +257,7 @@ impl Book {
         rec.save(prog, memory);
         rec.go(prog, Phase::Released);
         self.phases[task.0 as usize] = Phase::Released;
-        self.held -= 1;
+        self.unreleased -= 1;
         self.waits.set(task.0, 1);
         self.deps.release(task);
         let from = count_of(&self.statuses);
@@ -288,11 +300,11 @@ impl Book {
     pub fn finished(&self) -> bool
         ensures { IsTrue result ↔ IsFinished (final self.now.program self.now.history) }
     {
-        self.held == 0
+        self.unreleased == 0
     }
 
-    // The notices of completions in the state after the history. No one takes them.
-    pub(crate) fn notices(&self) -> &[ReqNo]
+    /// The notices of completions in the state after the history. No one takes them. Takes constant time.
+    pub fn notices(&self) -> &[ReqNo]
         ensures { result.now ≡ (final self.now.program self.now.history).notices }
     {
         &self.notices
@@ -316,7 +328,7 @@ impl Book {
             notices: _,
             entries,
             statuses,
-            held: _,
+            unreleased: _,
             waits: _,
             posted: _,
         } = self;

@@ -3,13 +3,9 @@
 
 mod book;
 mod counts;
-pub mod laws;
-mod plain;
 mod posted;
 mod posting;
 mod room;
 mod tasks;
-mod waits;
 
 pub use book::{Book, BookEnd};
-pub use plain::run_plainly;

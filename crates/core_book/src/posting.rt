@@ -21,7 +21,6 @@ use crate::counts::Counts;
 use crate::posted::Posted;
 use crate::room::note;
 use crate::tasks::{phase_before, stop, task_of};
-use crate::waits::blocks;
 use match_engine::Engine;
 use rt_base::{Cells, Handle, How, Op, Phase, Program, ReqNo, Span, Status, TaskDef, TaskNo};
 use task_local::{At, TaskRec};
@@ -70,7 +69,7 @@ pub(crate) fn blocked_place(at: At) -> u32
 pub(crate) fn posting_at(def: &TaskDef, k: u32) -> Posting
     requires within { k < length def.now.body.items }
     requires posts { IsPosting (slice_get def.now.body.items k) }
-    ensures { PostsAs (slice_get def.now.body.items k) result.how result.span result.status }
+    ensures { PostsAs (slice_get def.now.body.items k) result }
 {
     match &def.body.as_slice()[k as usize] {
         Op::Compute { .. } => unreachable!(),
@@ -85,20 +84,6 @@ pub(crate) fn posting_at(def: &TaskDef, k: u32) -> Posting
             status: *status,
         },
         Op::Await { .. } => unreachable!(),
-    }
-}
-
-// Whether it is a receive.
-pub(crate) fn is_receive(how: How) -> bool
-    ensures { result ≡ is_receive how }
-{
-    match how {
-        How::Send => false,
-        How::Ssend => false,
-        How::Recv => true,
-        How::Isend => false,
-        How::Issend => false,
-        How::Irecv => true,
     }
 }
 
@@ -121,7 +106,7 @@ pub(crate) fn post(
         ≡ completes_alone engine.old.program.eager (posting_of engine.old.program other)) }
     ensures completed { IfSome result (λ other. is_complete engine.new.program engine.new.exchange other ≡ true) }
 {
-    if is_receive(how) {
+    if how.is_receive() {
         engine.post_recv(prog, req)
     } else {
         engine.post_send(prog, req, cells)
@@ -134,7 +119,7 @@ pub(crate) fn phase_after(def: &TaskDef, k: u32, how: How) -> Phase
     requires few { length def.now.body.items < 2 ^ 32 }
     ensures { result ≡ (if blocks how then phase.In k else stop def.now (k + 1)) }
 {
-    if blocks(how) {
+    if how.blocks() {
         Phase::In(k)
     } else {
         stop(def, k + 1)
@@ -147,7 +132,7 @@ pub(crate) fn place_after(def: &TaskDef, k: u32, how: How) -> Phase
     requires few { length def.now.body.items < 2 ^ 32 }
     ensures { result ≡ (if blocks how then phase.In k else phase_before def.now (k + 1)) }
 {
-    if blocks(how) {
+    if how.blocks() {
         Phase::In(k)
     } else {
         phase_before(def, k + 1)
@@ -190,7 +175,7 @@ fn is_awaited_in(def: &TaskDef, k: u32, posted: &Posted, req: ReqNo) -> bool
     }
     match &def.body.as_slice()[k as usize] {
         Op::Compute { .. } => false,
-        Op::Post { how, .. } => blocks(*how) && posted.last(req.task) == req.nth,
+        Op::Post { how, .. } => how.blocks() && posted.last(req.task) == req.nth,
         Op::Await { handles, .. } => is_named(handles.as_slice(), req.nth),
     }
 }
@@ -211,7 +196,7 @@ fn is_named(handles: &[Handle], nth: u32) -> bool
 pub(crate) fn waits_after(how: How, pending: u32) -> u32
     ensures { result ≡ (if blocks how then pending else 0) }
 {
-    if blocks(how) { pending } else { 0 }
+    if how.blocks() { pending } else { 0 }
 }
 
 // The task waits for one thing less.
@@ -266,7 +251,7 @@ pub(crate) fn tell_status(
     ensures count { result ≡ length (told_now engine.now.program engine.now.exchange req how) }
     ensures places { vec_capacity statuses.old ≤ vec_capacity statuses.new }
 {
-    if is_receive(how) {
+    if how.is_receive() {
         note(statuses, engine.status(prog, req));
         1
     } else {

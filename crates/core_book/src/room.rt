@@ -3,7 +3,7 @@
 ghost use Rattle.std.specs.Prelude.{◌≡◌, ◌≤◌, ◌<◌, ◌+◌, ◌*◌, ◌^◌, ◌∷◌, [], ◌++◌, length, sum, sum_by, vec_len, vec_capacity, replicate, pos, IfOk};
 ghost use Rattle.rt_base.specs.declared.data.Phase.TheVariants as phase;
 ghost use Rattle.rt_base.specs.declared.data.TaskDef.{TaskDef};
-ghost use Rattle.core_book.specs.Kept.{most_moves};
+ghost use Rattle.task_machine.specs.Course.{most_moves};
 
 use rt_base::{Phase, Status, TaskDef};
 use std::alloc::{AllocError, Global};

@@ -4,9 +4,8 @@ ghost use Rattle.std.specs.Prelude.{◌≡◌, ◌≤◌, ◌<◌, ◌^◌, ◌�
 ghost use Rattle.rt_base.specs.declared.data.Phase.TheVariants as phase;
 ghost use Rattle.task_local.specs.Local.{stop};
 ghost use Rattle.task_local.specs.Standing.{phase_before};
-ghost use Rattle.core_book.specs.Kept.{is_local};
 
-use rt_base::{Op, Phase, Program, TaskDef, TaskNo};
+use rt_base::{Phase, Program, TaskDef, TaskNo};
 
 // The task of this number.
 pub(crate) fn task_of(prog: &Program, task: TaskNo) -> &TaskDef
@@ -27,17 +26,6 @@ pub(crate) fn phase_before(def: &TaskDef, k: u32) -> Phase
     }
 }
 
-// Whether the operation is a local one.
-fn is_local(op: &Op) -> bool
-    ensures { result ≡ is_local op.now }
-{
-    match op {
-        Op::Compute { .. } => true,
-        Op::Post { .. } => false,
-        Op::Await { .. } => false,
-    }
-}
-
 // Where a task stands after the local operations from operation k on. Looks at each of them.
 pub(crate) fn stop(def: &TaskDef, k: u32) -> Phase
     requires within { k ≤ length def.now.body.items }
@@ -47,7 +35,7 @@ pub(crate) fn stop(def: &TaskDef, k: u32) -> Phase
     let body = def.body.as_slice();
     let mut at = k;
     while (at as usize) < body.len() {
-        if !is_local(&body[at as usize]) {
+        if !body[at as usize].is_local() {
             return Phase::At(at);
         }
         at += 1;

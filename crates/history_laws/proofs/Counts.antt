@@ -8,8 +8,8 @@ use Rattle.rt_base.specs.declared.data.Op.{Op}
 use Rattle.rt_base.specs.declared.data.TaskDef.{TaskDef}
 use Rattle.rt_base.specs.Operations.{is_posting, postings, nth_at}
 use Rattle.task_local.specs.Local.{stop}
-use Rattle.core_book.specs.Kept.{posted_by_phase}
-use Rattle.core_book.proofs.Stops.{posted_by-stop, stop_ended, stop_begins}
+use Rattle.task_machine.specs.Course.{posted_by_phase}
+use Rattle.task_machine.proofs.Stops.{posted_by-stop, stop_ended, stop_begins}
 
 sum_grows : (f : Op → ℕ) (xs : List Op) (j : ℕ) → sum_by f (take j xs) ≤ sum_by f (take (suc j) xs)
 sum_grows f xs zero = omega arith
@@ -27,7 +27,9 @@ pub nth_grows : (def : TaskDef) (j : ℕ) → nth_at def j ≤ nth_at def (j + 1
 nth_grows def j = subst (λ m. nth_at def j ≤ postings (take m def.body.items)) (suc_is j) (sum_grows _ def.body.items j)
 
 pub nth_more : (def : TaskDef) (j : ℕ) (o : Op) → slice_get def.body.items j ≡ Some o → is_posting o ≡ true → nth_at def (j + 1) ≡ nth_at def j + 1
-nth_more def j o here posts = count_by_more_yes is_posting def.body.items j o (slice_get_within def.body.items j o here) (ap is_posting (get_or_from_slice_get def.body.items j o o here) ∙ posts)
+nth_more def j o here posts =
+    count_by_more_yes is_posting def.body.items j o (slice_get_within def.body.items j o here)
+    (ap is_posting (get_or_from_slice_get def.body.items j o o here) ∙ posts)
 
 either_way : (a b : ℕ) → (a ≤ b) ⊎ (b ≤ a)
 either_way zero b = inl (omega arith)

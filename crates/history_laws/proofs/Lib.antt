@@ -1,3 +1,7 @@
 pub mod Counts
 pub mod Tracing
+pub mod Ordering
+mod Noticing
+mod Notified
+mod Handles
 pub mod Starting

@@ -1,9 +1,8 @@
 -- Where a task starts, each task that precedes it is released.
-use Rattle.std.proofs.Common.{◌≡◌, ◌≢◌, ℕ, ◌+◌, ◌<◌, ◌≤◌, Bool, true, false, ◌⊎◌, List, [], ◌∷◌, ◌++◌, map, length, take, drop, slice_get, slice_set, option_map, Option, Some, None, refl, sym, ap, ◌∙◌, subst, inl, inr, arith, append_assoc, length-append}
+use Rattle.std.proofs.Common.{◌≡◌, ◌≢◌, ℕ, ◌+◌, ◌<◌, ◌≤◌, Bool, true, false, ◌⊎◌, List, [], ◌∷◌, ◌++◌, length, take, drop, slice_get, slice_set, option_map, Option, Some, None, refl, sym, ap, ◌∙◌, subst, inl, inr, arith, append_assoc, length-append}
 use Rattle.std.specs.Prelude.{nat_lt}
 use Rattle.std.proofs.Math.Seq.{take-append_seam}
 use Rattle.std.proofs.lemmas.Bool.Decides.{nat_tests}
-use Rattle.std.proofs.lemmas.List.{append-nil}
 use Rattle.std.proofs.lemmas.Option.{slice_get_within}
 use Rattle.rt_base.specs.declared.data.ReqNo.{ReqNo}
 use Rattle.rt_base.specs.declared.data.TaskNo.{TaskNo}
@@ -21,12 +20,12 @@ use Rattle.rt_base.specs.Precedes.{Precedes, MayStart}
 use Rattle.rt_base.specs.State.{State, Task, opening, waiting_task, is_released, let_go, phase_of}
 use Rattle.rt_base.specs.MayMove.{AreComplete, MayMoveAt, MayMove}
 use Rattle.task_local.specs.Local.{stop_at, stop}
-use Rattle.core_book.specs.Machine.{Moved, move_at, call_move, await_move, post_move, poll, polled, step, MayStep}
-use Rattle.core_book.specs.Legal.{IsDefined, state_after, entries_after, caller, callers, final, IsLegal}
-use Rattle.core_book.proofs.Rows.{move-row}
-use Rattle.core_book.proofs.Lists.{slice_get-set_same, slice_get-set_other, slice_get-map}
-use Rattle.core_book.proofs.Lines.{either_place, at_replicate, same_some}
-use Rattle.core_book.proofs.Runs.{step-task, exists_of_move, callers-push, state_after-push}
+use Rattle.task_machine.specs.Machine.{Moved, move_at, call_move, await_move, post_move, poll, polled, step, MayStep}
+use Rattle.task_machine.specs.Legal.{IsDefined, state_after, entries_after, caller, callers, final, IsLegal}
+use Rattle.task_machine.proofs.Rows.{move-row}
+use Rattle.task_machine.proofs.Lists.{slice_get-set_same, slice_get-set_other, slice_get-map}
+use Rattle.task_machine.proofs.Items.{either_place, at_replicate, same_some}
+use Rattle.task_machine.proofs.Runs.{step-task, exists_of_move, callers-push, state_after-push}
 use Rattle.history_laws.specs.Starts.{IsReleasedBefore}
 
 -- what a move of task u changes, as far as starts and releases go
@@ -180,7 +179,8 @@ record Moves (p : Program) (s : State) (c : ℕ) : Type 0 where
 moves_of : (p : Program) (s : State) (c : ℕ) → MayMove p s c → Moves p s c
 moves_of p s c may = record {
   may = may;
-  row = subst (Row s c may.task.phase) (sym (move-row p s c may.def may.task may.task.phase may.is_def may.is_task refl) ∙ sym (step-task p s c (exists_of_move p s c may)))
+  row = subst (Row s c may.task.phase) (sym (move-row p s c may.def may.task may.task.phase may.is_def may.is_task refl)
+      ∙ sym (step-task p s c (exists_of_move p s c may)))
       (move_row p s c may.def may.task may.task.phase may.is_task refl may.enabled);
 }
 
@@ -217,8 +217,13 @@ longer front e = length-append front (e ∷ [])
 past_kept : (p : Program) (all : List Entry) (u : ℕ) (front : List Entry) (e : Entry) → phase_of (final p (front ++ e ∷ [])) u ≡ phase_of (final p front) u
     → Past p all u front → Past p all u (front ++ e ∷ [])
 past_kept p all u front e same old = record {
-  returned = λ stands. let before = old.returned (sym same ∙ stands) in (before.0, (let lt = before.1 in let len = longer front e in omega (arith, lt, len)), before.2);
-  released = λ stands. later p all u (length front) (length (front ++ e ∷ [])) (let len = longer front e in omega (arith, len)) (old.released (sym same ∙ stands));
+  returned = λ stands. let before = old.returned (sym same ∙ stands) in (
+    before.0,
+    (let lt = before.1 in let len = longer front e in omega (arith, lt, len)),
+    before.2,
+  );
+  released = λ stands. later p all u (length front) (length (front ++ e ∷ [])) (let len = longer front e in
+      omega (arith, len)) (old.released (sym same ∙ stands));
 }
 
 -- the entry at the seam, and the front before it
@@ -259,7 +264,8 @@ released_here p all u from count front back e task whole is is_task complete pla
     }
 
 -- where all that is bound to a returned task is complete
-bound_complete : (p : Program) (s : State) (c : ℕ) (def : TaskDef) (task : Task) (at : Phase) → MayMoveAt p s.tasks s.exchange c def task at → at ≡ phase.Returned
+bound_complete : (p : Program) (s : State) (c : ℕ) (def : TaskDef) (task : Task) (at : Phase) → MayMoveAt p s.tasks s.exchange c def task at
+    → at ≡ phase.Returned
     → AreComplete p s.exchange task.bound
 bound_complete p s c def task at may is = subst (λ (at : Phase). MayMoveAt p s.tasks s.exchange c def task at) is may
 
@@ -268,8 +274,12 @@ past_moved : (p : Program) (all : List Entry) (c : ℕ) (front back : List Entry
     → (step p (final p front) c).state ≡ final p (front ++ e ∷ []) → Moves p (final p front) c → Past p all c front → Past p all c (front ++ e ∷ [])
 past_moved p all c front back e whole is next moves old = record {
   returned = λ stands.
-      let now = phase_is (step p (final p front) c).state c moves.row.now phase.Returned moves.row.here (ap (λ (s : State). phase_of s c) next ∙ stands) in
-      (length front, (let len = longer front e in omega (arith, len)), at_seam all front back e whole ∙ ap (λ (e : Entry). Some e) (is ∙ moves.row.returned now));
+      let now = phase_is (step p (final p front) c).state c moves.row.now phase.Returned moves.row.here (ap (λ (s : State). phase_of s c) next ∙ stands) in (
+        length front,
+        (let len = longer front e in omega (arith, len)),
+        at_seam all front back e whole
+            ∙ ap (λ (e : Entry). Some e) (is ∙ moves.row.returned now),
+      );
   released = λ stands.
       let now = phase_is (step p (final p front) c).state c moves.row.now phase.Released moves.row.here (ap (λ (s : State). phase_of s c) next ∙ stands) in
       let releases = moves.row.released now in
@@ -283,11 +293,13 @@ phase_same : (s new : State) (u : ℕ) → slice_get new.tasks u ≡ slice_get s
 phase_same s new u same = ap (option_map (λ (task : Task). task.phase)) same
 
 -- one entry more
-past_next : (p : Program) (w : ℕ) (all : List Entry) (u c : ℕ) (front back : List Entry) (e : Entry) → all ≡ front ++ e ∷ back → e ≡ (step p (final p front) c).entry
+past_next : (p : Program) (w : ℕ) (all : List Entry) (u c : ℕ) (front back : List Entry) (e : Entry) → all ≡ front ++ e ∷ back
+    → e ≡ (step p (final p front) c).entry
     → (step p (final p front) c).state ≡ final p (front ++ e ∷ []) → MayStep p w (final p front) c → Past p all u front → Past p all u (front ++ e ∷ [])
 past_next p w all u c front back e whole is next may old = elim (step_of p w (final p front) c may) [
   | inl moves ↦ elim (either_place u c) [
-    | inl same ↦ subst (λ i. Past p all i (front ++ e ∷ [])) (sym same) (past_moved p all c front back e whole is next moves (subst (λ i. Past p all i front) same old))
+    | inl same ↦ subst (λ i. Past p all i (front ++ e ∷ [])) (sym same)
+        (past_moved p all c front back e whole is next moves (subst (λ i. Past p all i front) same old))
     | inr other ↦ past_kept p all u front e
         (sym (ap (λ (s : State). phase_of s u) next) ∙ phase_same (final p front) (step p (final p front) c).state u (moves.row.others u other)) old
   ]
@@ -296,20 +308,24 @@ past_next p w all u c front back e whole is next may old = elim (step_of p w (fi
       ∙ phase_same (final p front) (step p (final p front) c).state u (ap (λ (tasks : List Task). slice_get tasks u) aside.same)) old
 ]
 
+-- a task whose accesses are let go stands at its end
+released_phase : (at : Option Phase) → option_map is_released at ≡ Some true → at ≡ Some phase.Released
+released_phase None h = cc
+released_phase (Some phase.Waiting) h = absurd (cc)
+released_phase (Some (phase.At k)) h = absurd (cc)
+released_phase (Some (phase.In k)) h = absurd (cc)
+released_phase (Some phase.Ended) h = absurd (cc)
+released_phase (Some phase.Returned) h = absurd (cc)
+released_phase (Some phase.Released) h = refl
+
+released_task : (o : Option Task) → option_map (λ (task : Task). is_released task.phase) o ≡ Some true
+    → option_map (λ (task : Task). task.phase) o ≡ Some phase.Released
+released_task None h = cc
+released_task (Some task) h = released_phase (Some task.phase) h
+
 -- what is let go of is released
 gone_released : (s : State) (u : ℕ) → slice_get (let_go s.tasks).released u ≡ Some true → phase_of s u ≡ Some phase.Released
-gone_released s u gone =
-    released_phase (phase_of s u) (sym (slice_get-map is_released (map (λ (task : Task). task.phase) s.tasks) u
-    ∙ ap (option_map is_released) (slice_get-map (λ (task : Task). task.phase) s.tasks u)) ∙ gone)
-  where
-    released_phase : (at : Option Phase) → option_map is_released at ≡ Some true → at ≡ Some phase.Released
-    released_phase None h = cc
-    released_phase (Some phase.Waiting) h = absurd (cc)
-    released_phase (Some (phase.At k)) h = absurd (cc)
-    released_phase (Some (phase.In k)) h = absurd (cc)
-    released_phase (Some phase.Ended) h = absurd (cc)
-    released_phase (Some phase.Returned) h = absurd (cc)
-    released_phase (Some phase.Released) h = refl
+gone_released s u gone = released_task (slice_get s.tasks u) (sym (slice_get-map (λ (task : Task). is_released task.phase) s.tasks u) ∙ gone)
 
 may_start : (p : Program) (s : State) (c : ℕ) (def : TaskDef) (task : Task) (at : Phase) → MayMoveAt p s.tasks s.exchange c def task at → at ≡ phase.Waiting
     → MayStart p (let_go s.tasks) c
@@ -338,11 +354,13 @@ tails : (e d : Entry) (es ds : List Entry) → e ∷ es ≡ d ∷ ds → es ≡ 
 tails e d es ds h = cc
 
 -- along the history
-walk : (p : Program) (w : ℕ) (all : List Entry) (t u place : ℕ) → Precedes p u t → slice_get all place ≡ Some (entry.Start (task_no t)) → (back front : List Entry)
+walk : (p : Program) (w : ℕ) (all : List Entry) (t u place : ℕ) → Precedes p u t → slice_get all place ≡ Some (entry.Start (task_no t))
+    → (back front : List Entry)
     → all ≡ front ++ back → IsDefined p w (final p front) (callers p back) → back ≡ entries_after p (final p front) (callers p back) → Past p all u front
     → length front ≤ place → IsReleasedBefore p all u place
 walk p w all t u place precedes starts [] front whole runs replies old above =
-    absurd (let within = slice_get_within all place _ starts in let len = ap length whole in let parts = length-append front [] in omega (arith, within, len, parts, above))
+    absurd (let within = slice_get_within all place _ starts in let len = ap length whole in let parts = length-append front [] in
+    omega (arith, within, len, parts, above))
 walk p w all t u place precedes starts (e ∷ back) front whole runs replies old above =
     let c = caller (length p.tasks.items) e in
     let is : e ≡ (step p (final p front) c).entry = heads e _ back _ replies in
@@ -363,7 +381,8 @@ walk p w all t u place precedes starts (e ∷ back) front whole runs replies old
 past_opening : (p : Program) (all : List Entry) (u t : ℕ) → Precedes p u t → Past p all u []
 past_opening p all u t precedes =
     let waits : phase_of (opening p) u ≡ Some phase.Waiting =
-    ap (option_map (λ (task : Task). task.phase)) (at_replicate (length p.tasks.items) waiting_task u (slice_get_within p.tasks.items u precedes.earlier precedes.is_earlier)) in
+    ap (option_map (λ (task : Task). task.phase))
+    (at_replicate (length p.tasks.items) waiting_task u (slice_get_within p.tasks.items u precedes.earlier precedes.is_earlier)) in
     record {
       returned = λ stands. absurd (let both = sym waits ∙ stands in cc);
       released = λ stands. absurd (let both = sym waits ∙ stands in cc);

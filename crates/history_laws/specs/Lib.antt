@@ -1,2 +1,4 @@
 pub mod Postings
+pub mod Order
+pub mod Notices
 pub mod Starts

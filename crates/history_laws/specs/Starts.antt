@@ -8,7 +8,7 @@ use Rattle.rt_base.specs.Operations.{task_no}
 use Rattle.rt_base.specs.Precedes.{Precedes}
 use Rattle.rt_base.specs.State.{Task}
 use Rattle.rt_base.specs.MayMove.{AreComplete}
-use Rattle.core_book.specs.Legal.{final, IsLegal}
+use Rattle.task_machine.specs.Legal.{final, IsLegal}
 
 -- before this place of the history task u has returned and was then released, and when it was released every request bound to it was complete
 pub record IsReleasedBefore (program : Program) (entries : List Entry) (u place : ℕ) : Type 0 where

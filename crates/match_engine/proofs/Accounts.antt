@@ -13,8 +13,8 @@ use Rattle.rt_base.specs.Exchange.{Exchange, Mailbox, Match, Posting, Sent, Aske
 use Rattle.rt_base.specs.Completion.{is_party, is_posted}
 use Rattle.match_engine.specs.Queues.{IsPlaced}
 use Rattle.match_engine.specs.Kept.{in_mailbox, occurrences, IsAccounted}
-use Rattle.match_engine.proofs.SameRequest.{one_request, same_request-comm}
-use Rattle.match_engine.proofs.Postings.{IsOf, posted_after}
+use Rattle.rt_base.proofs.SameRequest.{one_request, same_request-comm}
+use Rattle.rt_base.proofs.Postings.{IsOf, posted_after}
 
 abbrev pub once : Bool → ℕ
 once b = cond b 1 0
@@ -104,7 +104,8 @@ occurrences_after exchange req q Nowhere own placed =
 once_of : {b : Bool} (c : Bool) → b ≡ c → once b ≡ once c
 once_of c e = ap once e
 
-accounted_at : (posted same : Bool) (before after : ℕ) → (same ≡ true → posted ≡ false) → before ≤ once posted → after ≤ before + once same → after ≤ once (posted || same)
+accounted_at : (posted same : Bool) (before after : ℕ) → (same ≡ true → posted ≡ false) → before ≤ once posted → after ≤ before + once same
+    → after ≤ once (posted || same)
 accounted_at true true before after fresh was is = absurd (false≢true (sym (fresh refl)))
 accounted_at true false before after fresh was is = omega arith
 accounted_at false same before after fresh was is = omega arith
@@ -114,6 +115,7 @@ pub accounted_after : (exchange : Exchange) (req : ReqNo) (posting : Posting) �
     → is_posted exchange req ≡ false → IsAccounted exchange → IsAccounted (exchange_after exchange req posting)
 accounted_after exchange req posting own placed fresh accounted = λ q.
     let new : (same_request q req ≡ true) → is_posted exchange q ≡ false = λ same. ap (is_posted exchange) (one_request q req same) ∙ fresh in
-    let bound = accounted_at (is_posted exchange q) (same_request q req) (occurrences exchange q) (occurrences (exchange_after exchange req posting) q) new (accounted q)
+    let bound = accounted_at (is_posted exchange q) (same_request q req) (occurrences exchange q) (occurrences (exchange_after exchange req posting) q) new
+    (accounted q)
     (omega (arith, occurrences_after exchange req q posting own placed, ap once (same_request-comm req q))) in
     omega (arith, bound, ap once (posted_after exchange req q posting))

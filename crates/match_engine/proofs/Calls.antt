@@ -1,5 +1,5 @@
 -- The call of a request of the program says all that its operation does.
-use Rattle.std.proofs.Common.{◌≡◌, ℕ, ◌<◌, true, false, List, ℤ, filter, slice_get, Option, Some, None, option_map, option_and_then, IsSome, sym, refl, ap, ◌∙◌, subst}
+use Rattle.std.proofs.Common.{◌≡◌, ℕ, zero, suc, ◌<◌, Bool, true, false, cond, List, [], ◌∷◌, ℤ, filter, slice_get, Option, Some, None, option_map, option_and_then, IsSome, sym, refl, ap, ◌∙◌, subst}
 use Rattle.std.proofs.lemmas.Option.{none-some, same_Some, slice_get_within, get_or_from_slice_get}
 use Rattle.std.proofs.lemmas.Bool.{false≢true}
 use Rattle.std.proofs.lemmas.List.Elements.{All-filter, All-get_or}
@@ -19,7 +19,7 @@ use Rattle.rt_base.specs.Exchange.{Match, Posting, sent_by, asked_by, posting_by
 use Rattle.rt_base.specs.Completion.{completes_alone, completes_at_once, status_by, cells_by}
 use Rattle.rt_base.specs.WellFormed.{WellFormed, IsTask, IsOperation, IsPeer}
 use Rattle.match_engine.specs.declared.slots.Call.{Call}
-use Rattle.match_engine.specs.Requests.{Sends, Receives, IsSend, IsReceive}
+use Rattle.match_engine.specs.Requests.{Sends, Receives, IsSend, IsReceive, HasSpan}
 use Rattle.match_engine.specs.Queues.{IsPlaced}
 use Rattle.match_engine.specs.Slots.{call_by, call_of, call_status, call_cells}
 
@@ -54,7 +54,8 @@ posting_is program req call from = ap (option_and_then (operation_in req)) from.
 
 posted_call : (req : ReqNo) (rank : ℕ) (cells : List ℤ) (operation : Op)
     → posted_by req rank cells operation
-    ≡ posting_by (call_by rank operation).how req (call_by rank operation).rank (call_by rank operation).peer (call_by rank operation).tag (call_by rank operation).comm cells
+    ≡ posting_by (call_by rank operation).how req (call_by rank operation).rank (call_by rank operation).peer (call_by rank operation).tag
+    (call_by rank operation).comm cells
 posted_call req rank cells (op.Compute kernel dst left right value step) = refl
 posted_call req rank cells (op.Post kind span whom selected comm status) = refl
 posted_call req rank cells (op.Await later handles status) = refl
@@ -99,7 +100,8 @@ of_task program well req call from =
     subst (IsTask program) (get_or_from_slice_get program.tasks.items req.task.0 from.task from.task from.task_is)
     (All-get_or (IsTask program) program.tasks.items req.task.0 from.task (slice_get_within program.tasks.items req.task.0 from.task from.task_is) well.tasks)
 
-of_body : (program : Program) → WellFormed program → (req : ReqNo) (call : Call) (from : IsCallOf program req call) → IsOperation program from.task from.operation
+of_body : (program : Program) → WellFormed program → (req : ReqNo) (call : Call) (from : IsCallOf program req call)
+    → IsOperation program from.task from.operation
 of_body program well req call from =
     let ops = filter is_posting from.task.body.items in
     subst (IsOperation program from.task) (get_or_from_slice_get ops req.nth from.operation from.operation from.operation_is)
@@ -119,7 +121,8 @@ asked_placed program req rank (peer.Rank from) selected comm h = h
 asked_placed program req rank peer.Any selected comm h = h
 asked_placed program req rank peer.Null selected comm h = tt
 
-kind_placed : (program : Program) (kind : How) (req : ReqNo) (rank : ℕ) (whom : Peer) (selected : TagSel) (comm : ℕ) (cells : List ℤ) → IsPeer program whom → rank < program.ranks
+kind_placed : (program : Program) (kind : How) (req : ReqNo) (rank : ℕ) (whom : Peer) (selected : TagSel) (comm : ℕ) (cells : List ℤ) → IsPeer program whom
+    → rank < program.ranks
     → IsPlaced program.ranks (posting_by kind req rank whom selected comm cells)
 kind_placed program how.Send req rank whom selected comm cells exists own = sent_placed program req rank whom selected comm cells exists
 kind_placed program how.Ssend req rank whom selected comm cells exists own = sent_placed program req rank whom selected comm cells exists
@@ -128,7 +131,8 @@ kind_placed program how.Isend req rank whom selected comm cells exists own = sen
 kind_placed program how.Issend req rank whom selected comm cells exists own = sent_placed program req rank whom selected comm cells exists
 kind_placed program how.Irecv req rank whom selected comm cells exists own = asked_placed program req rank whom selected comm own
 
-operation_placed : (program : Program) (task : TaskDef) (req : ReqNo) (cells : List ℤ) (operation : Op) → task.rank < program.ranks → IsOperation program task operation
+operation_placed : (program : Program) (task : TaskDef) (req : ReqNo) (cells : List ℤ) (operation : Op) → task.rank < program.ranks
+    → IsOperation program task operation
     → IsPlaced program.ranks (posted_as req cells (call_by task.rank operation))
 operation_placed program task req cells (op.Compute kernel dst left right value step) own is = tt
 operation_placed program task req cells (op.Post kind span whom selected comm status) own is =
@@ -172,7 +176,8 @@ pub status_is_call : (program : Program) (req : ReqNo) (call : Call) (found : Op
     → status_by found (posting_of program req) ≡ call_status call found
 status_is_call program req call found is =
     let from = origin program req call is in
-    ap (status_by found) (posting_is program req call from) ∙ status_of found from.task.rank from.operation ∙ ap (λ (c : Call). call_status c found) from.call_is
+    ap (status_by found) (posting_is program req call from) ∙ status_of found from.task.rank from.operation
+    ∙ ap (λ (c : Call). call_status c found) from.call_is
 
 pub cells_are_call : (program : Program) (req : ReqNo) (call : Call) (found : Option Match) → call_of program req ≡ Some call
     → cells_by found (posting_of program req) ≡ call_cells call found
@@ -191,7 +196,8 @@ receives_by rank (op.Compute kernel dst left right value step) h = absurd h
 receives_by rank (op.Post kind span whom selected comm status) h = h
 receives_by rank (op.Await later handles status) h = absurd h
 
-pub is_send : (program : Program) (req : ReqNo) (count : ℕ) (call : Call) → call_of program req ≡ Some call → IsSend program req count → is_receive call.how ≡ false
+pub is_send : (program : Program) (req : ReqNo) (count : ℕ) (call : Call) → call_of program req ≡ Some call → IsSend program req count
+    → is_receive call.how ≡ false
 is_send program req count call found sends =
     let from = origin program req call found in
     subst (λ (c : Call). is_receive c.how ≡ false) from.call_is
@@ -202,6 +208,31 @@ is_recv program req call found receives =
     let from = origin program req call found in
     subst (λ (c : Call). is_receive c.how ≡ true) from.call_is
     (receives_by from.task.rank from.operation (subst Receives (posting_is program req call from) receives))
+
+-- what a filter keeps passes
+only_if : (x : Op) (ops : List Op) (i : ℕ) (operation : Op) (b : Bool) → is_posting x ≡ b
+    → ((j : ℕ) (y : Op) → slice_get (filter is_posting ops) j ≡ Some y → is_posting y ≡ true)
+    → slice_get (cond b (x ∷ filter is_posting ops) (filter is_posting ops)) i ≡ Some operation → is_posting operation ≡ true
+only_if x ops zero operation true passes rest at = ap is_posting (sym (same_Some x operation at)) ∙ passes
+only_if x ops (suc i) operation true passes rest at = rest i operation at
+only_if x ops i operation false fails rest at = rest i operation at
+
+-- the call of a posting has its span
+only_postings : (ops : List Op) (i : ℕ) (operation : Op) → slice_get (filter is_posting ops) i ≡ Some operation → is_posting operation ≡ true
+only_postings [] i operation at = absurd (none-some operation at)
+only_postings (x ∷ ops) i operation at = only_if x ops i operation (is_posting x) refl (only_postings ops) at
+
+pub span_by : (rank : ℕ) (operation : Op) → is_posting operation ≡ true → HasSpan (Some operation) (call_by rank operation).span
+span_by rank (op.Compute kernel dst left right value step) posts = absurd (false≢true posts)
+span_by rank (op.Post kind span whom selected comm status) posts = refl
+span_by rank (op.Await later handles status) posts = absurd (false≢true posts)
+
+pub span_is_call : (program : Program) (req : ReqNo) (call : Call) → call_of program req ≡ Some call → HasSpan (posting_of program req) call.span
+span_is_call program req call is =
+    let from = origin program req call is in
+    subst (λ (c : Call). HasSpan (posting_of program req) c.span) from.call_is
+    (subst (λ (o : Option Op). HasSpan o (call_by from.task.rank from.operation).span) (sym (posting_is program req call from))
+    (span_by from.task.rank from.operation (only_postings from.task.body.items req.nth from.operation from.operation_is)))
 
 mapped : {X Y : Type 0} (f : X → Y) (o : Option X) → IsSome o → IsSome (option_map f o)
 mapped f None some = some

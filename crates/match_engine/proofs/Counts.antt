@@ -36,7 +36,12 @@ pub marked_in : {R : Type 0} (v : R → List Slot) (rows : List R) (there here :
     → v there ≡ set (v here) req.nth (record slot { progress = progress })
     → map v (set rows req.task.0 there) ≡ marked slots req progress
 marked_in v rows there here slots req slot progress same taken here_is there_is =
-    let below : req.task.0 < length rows = omega (arith, length-map rows v, ap (λ (all : List (List Slot)). length all) same, row_within slots req slot taken) in
+    let below : req.task.0 < length rows = omega (
+      arith,
+      length-map rows v,
+      ap (λ (all : List (List Slot)). length all) same,
+      row_within slots req slot taken,
+    ) in
     let write : List Slot → List Slot = λ row. set row req.nth (record slot { progress = progress }) in
     let found : get_or (map v rows) req.task.0 [] ≡ v here = get_or-map v rows req.task.0 here [] below ∙ ap v (sym here_is) in
     map-set v rows req.task.0 there

@@ -16,8 +16,8 @@ use Rattle.match_engine.specs.declared.slots.Progress.TheVariants.{Unposted, Wai
 use Rattle.match_engine.specs.Slots.{progress_by, progress_of}
 use Rattle.match_engine.specs.Queues.{IsPlaced}
 use Rattle.match_engine.specs.Kept.{in_mailbox, IsAccounted}
-use Rattle.match_engine.proofs.SameRequest.{same_request-self, same_request-comm}
-use Rattle.match_engine.proofs.Postings.{IsOf, posted_after, party_of_made, or_none}
+use Rattle.rt_base.proofs.SameRequest.{same_request-self, same_request-comm}
+use Rattle.rt_base.proofs.Postings.{IsOf, posted_after, party_of_made, or_none}
 use Rattle.match_engine.proofs.Accounts.{once, some_message, some_receive, match}
 
 -- what nothing passes has no place
@@ -73,7 +73,8 @@ taken_message mailbox wish None made is = absurd (none-some made is)
 taken_message mailbox wish (Some place) made is = message_waits mailbox wish place (slice_get mailbox.messages place) made refl is
 
 -- a partner waits in a mailbox until it is taken
-partner_waits : (exchange : Exchange) (posting : Posting) (made : Match) → IsPlaced (length exchange.mailboxes) posting → match_made exchange posting ≡ Some made
+partner_waits : (exchange : Exchange) (posting : Posting) (made : Match) → IsPlaced (length exchange.mailboxes) posting
+    → match_made exchange posting ≡ Some made
     → 1 ≤ sum_by (in_mailbox (other_of posting made)) exchange.mailboxes
 partner_waits exchange (Sent to message) made placed is =
     omega (
@@ -94,7 +95,8 @@ unmatched : (matches : List Match) (q : ReqNo) → count_by (is_party q) matches
 unmatched matches q none = position_none (is_party q) matches (match (some_message q) (some_receive q)) (position (is_party q) matches) refl none
 
 -- a request that isn't posted is in no match
-pub new_is_unmatched : (exchange : Exchange) (req : ReqNo) → IsAccounted exchange → is_posted exchange req ≡ false → position (is_party req) exchange.matches ≡ None
+pub new_is_unmatched : (exchange : Exchange) (req : ReqNo) → IsAccounted exchange → is_posted exchange req ≡ false
+    → position (is_party req) exchange.matches ≡ None
 new_is_unmatched exchange req accounted fresh = unmatched exchange.matches req (omega (arith, accounted req, ap once fresh))
 
 at_most_one : (posted : Bool) (waits matches : ℕ) → waits + matches ≤ once posted → 1 ≤ waits → (posted ≡ true) × (matches ≤ 0)
@@ -106,11 +108,13 @@ pub record IsPartner (exchange : Exchange) (other : ReqNo) : Type 0 where
   pub posted : is_posted exchange other ≡ true
   pub unmatched : position (is_party other) exchange.matches ≡ None
 
-pub partner_before : (exchange : Exchange) (posting : Posting) (made : Match) → IsPlaced (length exchange.mailboxes) posting → match_made exchange posting ≡ Some made
+pub partner_before : (exchange : Exchange) (posting : Posting) (made : Match) → IsPlaced (length exchange.mailboxes) posting
+    → match_made exchange posting ≡ Some made
     → IsAccounted exchange → IsPartner exchange (other_of posting made)
 partner_before exchange posting made placed is accounted =
     let other = other_of posting made in
-    let one = at_most_one (is_posted exchange other) (sum_by (in_mailbox other) exchange.mailboxes) (count_by (is_party other) exchange.matches) (accounted other)
+    let one = at_most_one (is_posted exchange other) (sum_by (in_mailbox other) exchange.mailboxes) (count_by (is_party other) exchange.matches)
+    (accounted other)
     (partner_waits exchange posting made placed is) in
     record { posted = one.0; unmatched = unmatched exchange.matches other one.1 }
 
@@ -137,7 +141,8 @@ pub progress_other : (exchange : Exchange) (req q : ReqNo) (posting : Posting) �
 progress_other exchange req q posting own apart others =
     ap (λ (b : Bool). cond b (progress_by (position (is_party q) (exchange_after exchange req posting).matches)) Unposted)
     (posted_after exchange req q posting ∙ ap (λ (b : Bool). is_posted exchange q || b) (same_request-comm q req ∙ apart) ∙ or_none (is_posted exchange q))
-    ∙ ap (λ (o : Option ℕ). cond (is_posted exchange q) (progress_by o) Unposted) (others_stay exchange req q posting (match_made exchange posting) refl own apart others)
+    ∙ ap (λ (o : Option ℕ). cond (is_posted exchange q) (progress_by o) Unposted)
+    (others_stay exchange req q posting (match_made exchange posting) refl own apart others)
 
 -- a posting without a partner waits
 pub progress_alone : (exchange : Exchange) (req : ReqNo) (posting : Posting) → IsAccounted exchange → is_posted exchange req ≡ false
@@ -158,7 +163,8 @@ in_last exchange req q posting made is posted none party =
     ∙ ap progress_by (position_push_yes (is_party q) exchange.matches made none party)
 
 -- a posting with a partner is in the last match
-pub progress_taken : (exchange : Exchange) (req : ReqNo) (posting : Posting) (made : Match) → IsOf req posting → IsAccounted exchange → is_posted exchange req ≡ false
+pub progress_taken : (exchange : Exchange) (req : ReqNo) (posting : Posting) (made : Match) → IsOf req posting → IsAccounted exchange
+    → is_posted exchange req ≡ false
     → match_made exchange posting ≡ Some made → progress_of (exchange_after exchange req posting) req ≡ Matched (length exchange.matches)
 progress_taken exchange req posting made own accounted fresh is =
     in_last exchange req req posting made is

@@ -11,6 +11,7 @@ use Rattle.rt_base.specs.declared.data.Peer.TheVariants as peer
 use Rattle.rt_base.specs.declared.data.TagSel.{TagSel}
 use Rattle.rt_base.specs.declared.data.TagSel.TheVariants as tag
 use Rattle.rt_base.specs.declared.data.Program.{Program}
+use Rattle.rt_base.specs.Operations.{is_receive}
 use Rattle.rt_base.specs.Matching.{same_request}
 use Rattle.rt_base.specs.Exchange.{Exchange, Match, Posting, Sent, Asked, Nowhere, sent_by, asked_by, posting_by, send, receive, mailbox_of, match_made, mailboxes_after, exchange_after, other_of, partner_of}
 use Rattle.rt_base.specs.Completion.{is_party, is_posted}
@@ -19,10 +20,10 @@ use Rattle.match_engine.specs.declared.slots.Slot.{Slot}
 use Rattle.match_engine.specs.declared.slots.Progress.{Progress}
 use Rattle.match_engine.specs.declared.slots.Progress.TheVariants.{Unposted, Waits, Matched}
 use Rattle.match_engine.specs.Queues.{Shelf, Traffic, exchange_of, taken_at, IsPlaced, HasSpent}
-use Rattle.match_engine.specs.Slots.{slot_at, marked, marked_by, settled, slots_that, is_open, is_due, enters, enters_by, addresses, listens, is_unposted, call_of, slot_of, progress_of, progress_by}
-use Rattle.match_engine.specs.Kept.{IsAccounted, IsKept}
-use Rattle.match_engine.proofs.SameRequest.{one_request}
-use Rattle.match_engine.proofs.Postings.{IsOf, posted_after}
+use Rattle.match_engine.specs.Slots.{slot_at, marked, marked_by, settled, slots_that, is_open, is_due, enters, addresses, listens, is_unposted, call_of, slot_of, progress_of, progress_by}
+use Rattle.match_engine.specs.Kept.{IsAccounted, KeepsExchange}
+use Rattle.rt_base.proofs.SameRequest.{one_request}
+use Rattle.rt_base.proofs.Postings.{IsOf, posted_after}
 use Rattle.match_engine.proofs.Accounts.{accounted_after, once}
 use Rattle.match_engine.proofs.Course.{partner_before, progress_other, progress_alone, progress_taken, progress_partner}
 use Rattle.match_engine.proofs.Marks.{slot_at-marked, slots_that-marked, got_to}
@@ -68,7 +69,8 @@ slot_stands program exchange req slot (Some call) is same =
     let one : slot ≡ slot_of exchange req call = same_Some slot (slot_of exchange req call) same in
     record { call_is = is ∙ ap Some (ap (λ (s : Slot). s.call) (sym one)); progress_is = ap (λ (s : Slot). s.progress) one }
 
-pub slot_says : (program : Program) (eager : ℕ) (traffic : Traffic) (slots : List (List Slot)) (req : ReqNo) (slot : Slot) → IsKept program eager traffic slots
+pub slot_says : (program : Program) (eager : ℕ) (traffic : Traffic) (slots : List (List Slot)) (req : ReqNo) (slot : Slot)
+    → KeepsExchange program eager traffic slots
     → slot_at slots req ≡ Some slot → IsFresh program (exchange_of traffic) req slot
 slot_says program eager traffic slots req slot kept is =
     slot_stands program (exchange_of traffic) req slot (call_of program req) refl (sym is ∙ kept.slots_are req)
@@ -79,12 +81,13 @@ has_slot program exchange slots req None is some = absurd (false≢true some)
 has_slot program exchange slots req (Some call) is some = ap is_some is
 
 -- a posted request has a slot
-pub posted_has_slot : (program : Program) (eager : ℕ) (traffic : Traffic) (slots : List (List Slot)) (req : ReqNo) → IsKept program eager traffic slots
+pub posted_has_slot : (program : Program) (eager : ℕ) (traffic : Traffic) (slots : List (List Slot)) (req : ReqNo) → KeepsExchange program eager traffic slots
     → is_posted (exchange_of traffic) req ≡ true → IsSome (slot_at slots req)
 posted_has_slot program eager traffic slots req kept posted =
     has_slot program (exchange_of traffic) slots req (call_of program req) (kept.slots_are req) (kept.known req posted)
 
-pub open_since : (exchange : Exchange) (req : ReqNo) (slot : Slot) → slot.progress ≡ progress_of exchange req → is_posted exchange req ≡ false → slot.progress ≡ Unposted
+pub open_since : (exchange : Exchange) (req : ReqNo) (slot : Slot) → slot.progress ≡ progress_of exchange req → is_posted exchange req ≡ false
+    → slot.progress ≡ Unposted
 open_since exchange req slot is fresh = is ∙ ap (λ (b : Bool). cond b (progress_by (position (is_party req) exchange.matches)) Unposted) fresh
 
 -- slots as the exchange after the posting has them
@@ -96,7 +99,8 @@ abbrev slot_with : Progress → Call → Slot
 slot_with progress call = record { call = call; progress = progress }
 
 -- a slot says of a request what its call and its progress are
-as_slot : (program : Program) (exchange : Exchange) (q : ReqNo) (call : Call) (progress : Progress) → call_of program q ≡ Some call → progress_of exchange q ≡ progress
+as_slot : (program : Program) (exchange : Exchange) (q : ReqNo) (call : Call) (progress : Progress) → call_of program q ≡ Some call
+    → progress_of exchange q ≡ progress
     → ◌≡◌ {A = Option Slot} (Some (record { call = call; progress = progress })) (option_map (slot_of exchange q) (call_of program q))
 as_slot program exchange q call progress call_is progress_is =
     ap (λ (p : Progress). Some (slot_with p call)) (sym progress_is) ∙ ap (option_map (slot_of exchange q)) (sym call_is)
@@ -123,7 +127,8 @@ after_alone program old new slots req q slot are is call_is waits others (inr ot
     ∙ same_slot program old new slots q are (others other)
 
 -- the slots after a match: the request and its partner are in it, and all others are where they were
-after_match : (program : Program) (old new : Exchange) (slots : List (List Slot)) (req other q : ReqNo) (slot taken : Slot) (place : ℕ) → AreSlots program old slots
+after_match : (program : Program) (old new : Exchange) (slots : List (List Slot)) (req other q : ReqNo) (slot taken : Slot) (place : ℕ)
+    → AreSlots program old slots
     → slot_at slots req ≡ Some slot → call_of program req ≡ Some slot.call → slot_at slots other ≡ Some taken → call_of program other ≡ Some taken.call
     → same_request req other ≡ false → progress_of new req ≡ Matched place → progress_of new other ≡ Matched place
     → (same_request req q ≡ false → same_request other q ≡ false → progress_of new q ≡ progress_of old q)
@@ -132,7 +137,8 @@ after_match : (program : Program) (old new : Exchange) (slots : List (List Slot)
 after_match program old new slots req other q slot taken place are is call_is there taken_is apart mine theirs others (inl same) cases =
     let one = marked slots req (Matched place) in
     let still : slot_at one other ≡ Some taken =
-    slot_at-marked slots req other slot (Matched place) is ∙ cond-false (same_request req other) (Some (got_to (Matched place) slot)) (slot_at slots other) apart ∙ there in
+    slot_at-marked slots req other slot (Matched place) is
+    ∙ cond-false (same_request req other) (Some (got_to (Matched place) slot)) (slot_at slots other) apart ∙ there in
     slot_at-marked one other q taken (Matched place) still
     ∙ cond-true (same_request other q) (Some (got_to (Matched place) taken)) (slot_at one q) same
     ∙ subst (λ (r : ReqNo). Some (got_to (Matched place) taken) ≡ option_map (slot_of new r) (call_of program r)) (one_request other q same)
@@ -140,7 +146,8 @@ after_match program old new slots req other q slot taken place are is call_is th
 after_match program old new slots req other q slot taken place are is call_is there taken_is apart mine theirs others (inr third) (inl same) =
     let one = marked slots req (Matched place) in
     let still : slot_at one other ≡ Some taken =
-    slot_at-marked slots req other slot (Matched place) is ∙ cond-false (same_request req other) (Some (got_to (Matched place) slot)) (slot_at slots other) apart ∙ there in
+    slot_at-marked slots req other slot (Matched place) is
+    ∙ cond-false (same_request req other) (Some (got_to (Matched place) slot)) (slot_at slots other) apart ∙ there in
     slot_at-marked one other q taken (Matched place) still
     ∙ cond-false (same_request other q) (Some (got_to (Matched place) taken)) (slot_at one q) third
     ∙ slot_at-marked slots req q slot (Matched place) is
@@ -150,7 +157,8 @@ after_match program old new slots req other q slot taken place are is call_is th
 after_match program old new slots req other q slot taken place are is call_is there taken_is apart mine theirs others (inr third) (inr second) =
     let one = marked slots req (Matched place) in
     let still : slot_at one other ≡ Some taken =
-    slot_at-marked slots req other slot (Matched place) is ∙ cond-false (same_request req other) (Some (got_to (Matched place) slot)) (slot_at slots other) apart ∙ there in
+    slot_at-marked slots req other slot (Matched place) is
+    ∙ cond-false (same_request req other) (Some (got_to (Matched place) slot)) (slot_at slots other) apart ∙ there in
     slot_at-marked one other q taken (Matched place) still
     ∙ cond-false (same_request other q) (Some (got_to (Matched place) taken)) (slot_at one q) third
     ∙ slot_at-marked slots req q slot (Matched place) is
@@ -160,7 +168,8 @@ after_match program old new slots req other q slot taken place are is call_is th
 -- a request that is posted is another than one that isn't
 apart_from : (exchange : Exchange) (req other : ReqNo) → is_posted exchange req ≡ false → is_posted exchange other ≡ true → same_request req other ≡ false
 apart_from exchange req other fresh posted =
-    false_from_ne_true (same_request req other) (λ same. both_ways (is_posted exchange req) fresh (ap (is_posted exchange) (one_request req other same) ∙ posted))
+    false_from_ne_true (same_request req other) (λ same. both_ways (is_posted exchange req) fresh (ap (is_posted exchange) (one_request req other same)
+    ∙ posted))
 
 some_of : {X : Type 0} (o : Option X) → IsSome o → (x : X) × (o ≡ Some x)
 some_of None some = absurd (false≢true some)
@@ -168,7 +177,7 @@ some_of (Some x) some = (x, refl)
 
 -- what a posting finds: the parts of the engine as they are before it
 pub record IsPosted (program : Program) (eager : ℕ) (old : Traffic) (slots : List (List Slot)) (req : ReqNo) (slot : Slot) (posting : Posting) : Type 0 where
-  pub kept : IsKept program eager old slots
+  pub kept : KeepsExchange program eager old slots
   pub at : slot_at slots req ≡ Some slot
   pub fresh : is_posted (exchange_of old) req ≡ false
   pub own : IsOf req posting
@@ -192,7 +201,8 @@ settled_slots program eager old slots req slot posting found (Some made) is = λ
     let partner = partner_before before posting made found.placed is found.kept.accounted in
     let there = some_of (slot_at slots other) (posted_has_slot program eager old slots other found.kept partner.posted) in
     let tells = slot_says program eager old slots other there.0 found.kept there.1 in
-    after_match program before (exchange_after before req posting) slots req other q slot there.0 (length old.matches.items) found.kept.slots_are found.at says.call_is
+    after_match program before (exchange_after before req posting) slots req other q slot there.0 (length old.matches.items) found.kept.slots_are found.at
+    says.call_is
     there.1 tells.call_is (apart_from before req other found.fresh partner.posted)
     (progress_taken before req posting made found.own found.kept.accounted found.fresh is)
     (progress_partner before req posting made found.own found.placed found.kept.accounted is)
@@ -201,13 +211,19 @@ settled_slots program eager old slots req slot posting found (Some made) is = λ
     (cases_Bool (same_request other q)) (cases_Bool (same_request req q))
 
 -- a posting takes a place where its call enters
-sent_taken : (req : ReqNo) (rank at : ℕ) (whom : Peer) (selected : TagSel) (comm : ℕ) (cells : List ℤ) → taken_at (sent_by req rank whom selected comm cells) at ≤ once (addresses whom at)
+sent_taken : (req : ReqNo) (rank at : ℕ) (whom : Peer) (selected : TagSel) (comm : ℕ) (cells : List ℤ)
+    → taken_at (sent_by req rank whom selected comm cells) at ≤ once (addresses whom at)
 sent_taken req rank at (peer.Rank to) (tag.Tag chosen) comm cells = omega arith
 sent_taken req rank at (peer.Rank to) tag.Any comm cells = omega arith
 sent_taken req rank at peer.Any selected comm cells = omega arith
 sent_taken req rank at peer.Null selected comm cells = omega arith
 
-asked_taken : (req : ReqNo) (rank at : ℕ) (whom : Peer) (selected : TagSel) (comm : ℕ) → taken_at (asked_by req rank whom selected comm) at ≤ once (listens whom rank at)
+-- whether a posting of this kind takes a place in the queues of the rank
+abbrev enters_by : How → Peer → ℕ → ℕ → Bool
+enters_by kind whom own rank = cond (is_receive kind) (listens whom own rank) (addresses whom rank)
+
+asked_taken : (req : ReqNo) (rank at : ℕ) (whom : Peer) (selected : TagSel) (comm : ℕ)
+    → taken_at (asked_by req rank whom selected comm) at ≤ once (listens whom rank at)
 asked_taken req rank at (peer.Rank from) selected comm = omega arith
 asked_taken req rank at peer.Any selected comm = omega arith
 asked_taken req rank at peer.Null selected comm = omega arith
@@ -246,7 +262,7 @@ pub kept_after : (program : Program) (eager : ℕ) (old new : Traffic) (slots : 
     → IsPosted program eager old slots req slot (posted_as req cells slot.call)
     → exchange_of new ≡ exchange_after (exchange_of old) req (posted_as req cells slot.call)
     → HasSpent old new (posted_as req cells slot.call)
-    → IsKept program eager new (settled slots req (partner_of (exchange_of old) (posted_as req cells slot.call)) (length old.matches.items))
+    → KeepsExchange program eager new (settled slots req (partner_of (exchange_of old) (posted_as req cells slot.call)) (length old.matches.items))
 kept_after program eager old new slots req slot cells found is spent =
     let before = exchange_of old in
     let posting = posted_as req cells slot.call in

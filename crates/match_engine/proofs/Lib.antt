@@ -1,12 +1,15 @@
 mod Traffics
 mod Counts
 mod Marks
-pub mod SameRequest
-pub mod Postings
 mod Accounts
 mod Course
 mod Calls
 mod Keeps
 mod Replies
 mod Orders
+pub mod Standings
 mod Overtaking
+mod Leftovers
+pub mod Waiting
+pub mod Matched
+pub mod Partners

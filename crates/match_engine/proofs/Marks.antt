@@ -12,7 +12,8 @@ use Rattle.match_engine.specs.Slots.{slots_that, marked, marked_by, slot_at}
 
 elsewhere : {X : Type 0} (xs : List X) (i j : ℕ) (y : X) → (i ≡ j → ⊥) → (j < length xs) ⊎ (length xs ≤ j) → slice_get (set xs i y) j ≡ slice_get xs j
 elsewhere xs i j y other (inl below) =
-    slice_get-get_or (set xs i y) j y (omega (arith, length-set xs i y, below)) ∙ ap Some (get_or-set_other xs i j y y (λ e. other (sym e))) ∙ sym (slice_get-get_or xs j y below)
+    slice_get-get_or (set xs i y) j y (omega (arith, length-set xs i y, below)) ∙ ap Some (get_or-set_other xs i j y y (λ e. other (sym e)))
+    ∙ sym (slice_get-get_or xs j y below)
 elsewhere xs i j y other (inr past) = slice_get_past (set xs i y) j (omega (arith, length-set xs i y, past)) ∙ sym (slice_get_past xs j past)
 
 -- a write to a list is read where it was written, and nowhere else
@@ -56,7 +57,8 @@ slot_at-written slots req q slot new taken =
     let below : req.task.0 < length slots = slice_get_within slots req.task.0 row found.1 in
     let within : req.nth < length row = slice_get_within row req.nth slot found.2 in
     ap (λ (r : List Slot). slot_at (set slots req.task.0 (set r req.nth new)) q) here
-    ∙ ap (λ (o : Option (List Slot)). option_and_then (λ (r : List Slot). slice_get r q.nth) o) (slice_get-set slots req.task.0 q.task.0 (set row req.nth new) below)
+    ∙ ap (λ (o : Option (List Slot)). option_and_then (λ (r : List Slot). slice_get r q.nth) o)
+    (slice_get-set slots req.task.0 q.task.0 (set row req.nth new) below)
     ∙ written_row slots req q row new found.1 within (cases_Bool (req.task.0 == q.task.0))
 
 -- this slot, with other progress

@@ -11,7 +11,7 @@ use Rattle.std.proofs.lemmas.Option.{none-some, get_or_from_slice_get}
 use Rattle.std.proofs.lemmas.Bool.{cases_lt, cases_eq, cases_order, or_parts, ne_eqb, eq-eqb, lt-ltb, cond-true, cond-false}
 use Rattle.rt_base.specs.declared.data.ReqNo.{ReqNo}
 use Rattle.rt_base.specs.Matching.{same_request}
-use Rattle.match_engine.proofs.SameRequest.{same_request-self}
+use Rattle.rt_base.proofs.SameRequest.{same_request-self}
 
 -- when a request was posted
 abbrev pub place : List ReqNo → ReqNo → ℕ
@@ -35,7 +35,8 @@ pub new_place : (posted : List ReqNo) (q : ReqNo) → list_any (same_request q) 
 new_place posted q fresh =
     let last : place posted q ≡ length posted = not_there (same_request q) posted fresh in
     position_or_len_push (same_request q) posted q
-    ∙ cond-true (eqb (place posted q) (length posted)) (length posted + cond (same_request q q) 0 1) (place posted q) (eq-eqb (place posted q) (length posted) last)
+    ∙ cond-true (eqb (place posted q) (length posted)) (length posted + cond (same_request q q) 0 1) (place posted q)
+    (eq-eqb (place posted q) (length posted) last)
     ∙ ap (λ (b : Bool). length posted + cond b 0 1) (same_request-self q)
     ∙ omega arith
 
@@ -68,7 +69,8 @@ All-remove P xs i within all = λ k d below.
       | inr behind ↦ subst P (sym (get_or-remove_above xs i d k behind within)) (all (k + 1) d (omega (arith, below, length-remove xs i within)))
     ]
 
-pub order_removed : {X : Type 0} (posted : List ReqNo) (req : X → ReqNo) (xs : List X) (i : ℕ) → i < length xs → InOrder posted req xs → InOrder posted req (remove xs i)
+pub order_removed : {X : Type 0} (posted : List ReqNo) (req : X → ReqNo) (xs : List X) (i : ℕ) → i < length xs → InOrder posted req xs
+    → InOrder posted req (remove xs i)
 order_removed posted req xs i within order = record {
   pairs = all_pairs_remove (λ a b. place posted (req a) < place posted (req b)) xs i within order.pairs;
   known = All-remove (λ a. place posted (req a) < length posted) xs i within order.known;
@@ -123,7 +125,7 @@ contains_removed xs i d x within has =
     ]
 
 -- what is in a list without one item is in the list
-contains_whole : {X : Type 0} (xs : List X) (i : ℕ) (x : X) → i < length xs → Contains (remove xs i) x → Contains xs x
+pub contains_whole : {X : Type 0} (xs : List X) (i : ℕ) (x : X) → i < length xs → Contains (remove xs i) x → Contains xs x
 contains_whole xs i x within has =
     elim (cases_lt has.0 i) [
       | inl before ↦ (has.0, omega (arith, before, within), sym (get_or-remove_below xs i x has.0 before within) ∙ has.2)
@@ -133,7 +135,8 @@ contains_whole xs i x within has =
 none_means : {X : Type 0} (p : X → Bool) (xs : List X) → position p xs ≡ None → length xs ≤ position_or_len p xs
 none_means p xs none =
     elim (cases_lt (position_or_len p xs) (length xs)) [
-      | inl below ↦ absurd (none-some (position_or_len p xs) (sym none ∙ ap (λ (b : Bool). cond b (Some (position_or_len p xs)) None) (lt-ltb (position_or_len p xs) (length xs) below)))
+      | inl below ↦ absurd (none-some (position_or_len p xs) (sym none
+          ∙ ap (λ (b : Bool). cond b (Some (position_or_len p xs)) None) (lt-ltb (position_or_len p xs) (length xs) below)))
       | inr past ↦ past
     ]
 
@@ -152,7 +155,8 @@ nothing_apart fits ys = λ x y has_x has_y. absurd (omega (arith, has_x.1))
 pub apart_swapped : {X Y : Type 0} (fits : X → Y → Bool) (xs : List X) (ys : List Y) → Apart fits xs ys → Apart (λ y x. fits x y) ys xs
 apart_swapped fits xs ys apart = λ y x has_y has_x. apart x y has_x has_y
 
-pub apart_waits : {X Y : Type 0} (fits : X → Y → Bool) (x : X) (xs : List X) (ys : List Y) → position (fits x) ys ≡ None → Apart fits xs ys → Apart fits (xs ++ x ∷ []) ys
+pub apart_waits : {X Y : Type 0} (fits : X → Y → Bool) (x : X) (xs : List X) (ys : List Y) → position (fits x) ys ≡ None → Apart fits xs ys
+    → Apart fits (xs ++ x ∷ []) ys
 apart_waits fits x xs ys none apart = λ z y has_z has_y. elim (Contains-push_cases xs x z has_z) [
   | inl was ↦ apart z y was has_y
   | inr same ↦ subst (λ v. fits v y ≡ false) same (fails_everywhere (fits x) ys y none has_y)

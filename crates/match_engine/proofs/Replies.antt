@@ -18,24 +18,25 @@ use Rattle.match_engine.specs.declared.slots.Call.{Call}
 use Rattle.match_engine.specs.declared.slots.Slot.{Slot}
 use Rattle.match_engine.specs.declared.slots.Progress.TheVariants.{Unposted, Waits}
 use Rattle.match_engine.specs.Switch.{Switch}
-use Rattle.match_engine.specs.Requests.{IsSend, IsReceive}
+use Rattle.match_engine.specs.Requests.{IsSend, IsReceive, HasSpan}
 use Rattle.match_engine.specs.Queues.{Shelf, Traffic, exchange_of, room_at, taken_at, IsPlaced, HasRoomFor, HasSpent}
 use Rattle.match_engine.specs.Slots.{slot_at, settled, slots_that, is_open, is_due, call_by, call_of, slot_of, progress_of, progress_by, fresh_slot, fresh_row, fresh_slots, match_of, complete_by, call_status, call_cells}
-use Rattle.match_engine.specs.Kept.{IsAccounted, IsKept, in_mailbox}
+use Rattle.match_engine.specs.Kept.{IsAccounted, KeepsExchange, in_mailbox}
 use Rattle.match_engine.proofs.Counts.{sum_by-map}
-use Rattle.match_engine.proofs.SameRequest.{same_request-self}
-use Rattle.match_engine.proofs.Postings.{IsOf, posted_after, matched_after, party_of_made, posting_is_of}
+use Rattle.rt_base.proofs.SameRequest.{same_request-self}
+use Rattle.rt_base.proofs.Postings.{IsOf, posted_after, matched_after, party_of_made, posting_is_of}
 use Rattle.match_engine.proofs.Accounts.{once}
 use Rattle.match_engine.proofs.Course.{IsPartner, partner_before}
 use Rattle.match_engine.proofs.Marks.{slots_that-marked, got_to}
-use Rattle.match_engine.proofs.Calls.{posted_as, call_placed, call_alone, what_is_call, status_is_call, cells_are_call, send_posts, receive_posts, is_send, is_recv, send_has_call, recv_has_call}
+use Rattle.match_engine.proofs.Calls.{posted_as, call_placed, call_alone, span_is_call, what_is_call, status_is_call, cells_are_call, send_posts, receive_posts, is_send, is_recv, send_has_call, recv_has_call}
 use Rattle.match_engine.proofs.Keeps.{IsPosted, IsFresh, slot_says, has_slot, posted_has_slot, open_since, open_one, due_one, call_taken, kept_after}
 
 -- the first item that passes is the one at the first place that passes
 pub find_position : {X : Type 0} (p : X → Bool) (xs : List X) → find p xs ≡ element xs (position p xs)
 find_position p xs =
     elim (cases_lt (position_or_len p xs) (length xs)) [
-      | inl below ↦ find_at p xs ∙ sym (ap (λ (b : Bool). element xs (cond b (Some (position_or_len p xs)) None)) (lt-ltb (position_or_len p xs) (length xs) below))
+      | inl below ↦ find_at p xs
+          ∙ sym (ap (λ (b : Bool). element xs (cond b (Some (position_or_len p xs)) None)) (lt-ltb (position_or_len p xs) (length xs) below))
       | inr past ↦ find_at p xs ∙ slice_get_past xs (position_or_len p xs) past
           ∙ sym (ap (λ (b : Bool). element xs (cond b (Some (position_or_len p xs)) None)) (le-ltb (position_or_len p xs) (length xs) past))
     ]
@@ -56,8 +57,9 @@ find_or_position p xs =
     ]
 
 -- what a posting of a request finds: its slot, and what it posts
-pub record Finds (program : Program) (eager : ℕ) (old : Traffic) (slots : List (List Slot)) (req : ReqNo) (slot : Slot) (cells : List ℤ) (posting : Posting) : Type 0 where
-  pub kept : IsKept program eager old slots
+pub record Finds (program : Program) (eager : ℕ) (old : Traffic) (slots : List (List Slot)) (req : ReqNo) (slot : Slot) (cells : List ℤ) (posting : Posting) :
+    Type 0 where
+  pub kept : KeepsExchange program eager old slots
   pub at : slot_at slots req ≡ Some slot
   pub fresh : is_posted (exchange_of old) req ≡ false
   pub is : posted_as req cells slot.call ≡ posting
@@ -101,10 +103,16 @@ nothing_past ranks rank (Asked at wish) placed past = cond-false (at == rank) 1 
 nothing_past ranks rank Nowhere placed past = refl
 
 room_at_rank : (program : Program) (eager : ℕ) (old : Traffic) (slots : List (List Slot)) (req : ReqNo) (slot : Slot) (cells : List ℤ)
-    → IsKept program eager old slots → slot_at slots req ≡ Some slot → slot.progress ≡ Unposted → IsPlaced program.ranks (posted_as req cells slot.call)
+    → KeepsExchange program eager old slots → slot_at slots req ≡ Some slot → slot.progress ≡ Unposted → IsPlaced program.ranks (posted_as req cells slot.call)
     → (rank : ℕ) → (rank < program.ranks) ⊎ (program.ranks ≤ rank) → taken_at (posted_as req cells slot.call) rank ≤ room_at old rank
 room_at_rank program eager old slots req slot cells kept at unposted placed rank (inl below) =
-    omega (arith, call_taken req cells slot.call rank, ap once (due_one slot rank unposted), some_slot (is_due rank) slots req slot at refl, kept.room_to_wait rank below)
+    omega (
+      arith,
+      call_taken req cells slot.call rank,
+      ap once (due_one slot rank unposted),
+      some_slot (is_due rank) slots req slot at refl,
+      kept.room_to_wait rank below,
+    )
 room_at_rank program eager old slots req slot cells kept at unposted placed rank (inr past) =
     omega (arith, nothing_past program.ranks rank (posted_as req cells slot.call) placed past)
 
@@ -140,23 +148,27 @@ from_partner exchange posting result P is holds =
     subst (λ (o : Option ReqNo). IfSome o P) (sym is) (of_made posting (match_made exchange posting) P (λ made found. holds made found))
 
 -- its partner has a slot
-pub partner_slot : (program : Program) (eager : ℕ) (old : Traffic) (slots : List (List Slot)) (req : ReqNo) (slot : Slot) (cells : List ℤ) (posting : Posting) (result : Option ReqNo)
-    → Finds program eager old slots req slot cells posting → result ≡ partner_of (exchange_of old) posting → IfSome result (λ other. IsSome (slot_at slots other))
+pub partner_slot : (program : Program) (eager : ℕ) (old : Traffic) (slots : List (List Slot)) (req : ReqNo) (slot : Slot) (cells : List ℤ) (posting : Posting)
+    (result : Option ReqNo)
+    → Finds program eager old slots req slot cells posting → result ≡ partner_of (exchange_of old) posting
+    → IfSome result (λ other. IsSome (slot_at slots other))
 partner_slot program eager old slots req slot cells posting result found is =
     from_partner (exchange_of old) posting result (λ other. IsSome (slot_at slots other)) is (λ made at.
     posted_has_slot program eager old slots (other_of posting made) found.kept
     (partner_before (exchange_of old) posting made (placed_in program eager old slots req slot cells posting found) at found.kept.accounted).posted)
 
 -- the parts belong together after it
-pub kept_for : (program : Program) (eager : ℕ) (old new : Traffic) (slots after : List (List Slot)) (req : ReqNo) (slot : Slot) (cells : List ℤ) (posting : Posting) (result : Option ReqNo) (place : ℕ)
+pub kept_for : (program : Program) (eager : ℕ) (old new : Traffic) (slots after : List (List Slot)) (req : ReqNo) (slot : Slot) (cells : List ℤ)
+    (posting : Posting) (result : Option ReqNo) (place : ℕ)
     → Finds program eager old slots req slot cells posting → exchange_of new ≡ exchange_after (exchange_of old) req posting → HasSpent old new posting
-    → result ≡ partner_of (exchange_of old) posting → place ≡ length old.matches.items → after ≡ settled slots req result place → IsKept program eager new after
+    → result ≡ partner_of (exchange_of old) posting → place ≡ length old.matches.items → after ≡ settled slots req result place
+    → KeepsExchange program eager new after
 kept_for program eager old new slots after req slot cells posting result place found exchange spent result_is place_is after_is =
     let back = sym found.is in
     let done = kept_after program eager old new slots req slot cells (posted_for program eager old slots req slot cells posting found)
     (subst (λ (p : Posting). exchange_of new ≡ exchange_after (exchange_of old) req p) back exchange)
     (subst (HasSpent old new) back spent) in
-    subst (IsKept program eager new)
+    subst (KeepsExchange program eager new)
     (sym (after_is ∙ ap (λ (o : Option ReqNo). settled slots req o place) (result_is ∙ ap (partner_of (exchange_of old)) back)
     ∙ ap (settled slots req (partner_of (exchange_of old) (posted_as req cells slot.call))) place_is))
     done
@@ -171,7 +183,8 @@ what_is_for program eager old slots req slot cells posting found =
     what_is_call program req slot.call cells (said program eager old slots req slot cells posting found).call_is ∙ found.is
 
 -- the exchange is the one after the posting
-pub exchange_for : (program : Program) (eager : ℕ) (old new : Traffic) (slots : List (List Slot)) (req : ReqNo) (slot : Slot) (cells : List ℤ) (posting : Posting) (now : Switch)
+pub exchange_for : (program : Program) (eager : ℕ) (old new : Traffic) (slots : List (List Slot)) (req : ReqNo) (slot : Slot) (cells : List ℤ)
+    (posting : Posting) (now : Switch)
     → Finds program eager old slots req slot cells posting → switch program old ≡ now → exchange_of new ≡ exchange_after (exchange_of old) req posting
     → exchange_of new ≡ post now.program now.exchange req cells
 unfolding post
@@ -180,7 +193,8 @@ exchange_for program eager old new slots req slot cells posting now found same i
     (is ∙ ap (exchange_after (exchange_of old) req) (sym (what_is_for program eager old slots req slot cells posting found)))
 
 -- the answer is its partner
-pub partner_for : (program : Program) (eager : ℕ) (old : Traffic) (slots : List (List Slot)) (req : ReqNo) (slot : Slot) (cells : List ℤ) (posting : Posting) (result : Option ReqNo) (now : Switch)
+pub partner_for : (program : Program) (eager : ℕ) (old : Traffic) (slots : List (List Slot)) (req : ReqNo) (slot : Slot) (cells : List ℤ) (posting : Posting)
+    (result : Option ReqNo) (now : Switch)
     → Finds program eager old slots req slot cells posting → switch program old ≡ now → result ≡ partner_of (exchange_of old) posting
     → result ≡ partner now.program now.exchange req cells
 unfolding partner
@@ -197,17 +211,20 @@ waiting_complete program exchange other waits =
     ∙ ap (λ (b : Bool). b || completes_alone program.eager (posting_of program other))
     (find_or_position (is_party other) exchange.matches ∙ ap is_some waits.unmatched)
 
-pub before_for : (program : Program) (eager : ℕ) (old : Traffic) (slots : List (List Slot)) (req : ReqNo) (slot : Slot) (cells : List ℤ) (posting : Posting) (result : Option ReqNo) (now : Switch)
+pub before_for : (program : Program) (eager : ℕ) (old : Traffic) (slots : List (List Slot)) (req : ReqNo) (slot : Slot) (cells : List ℤ) (posting : Posting)
+    (result : Option ReqNo) (now : Switch)
     → Finds program eager old slots req slot cells posting → switch program old ≡ now → result ≡ partner_of (exchange_of old) posting
     → IfSome result (λ other. is_complete now.program now.exchange other ≡ completes_alone now.program.eager (posting_of now.program other))
 before_for program eager old slots req slot cells posting result now found same is =
     subst (λ (s : Switch). IfSome result (λ other. is_complete s.program s.exchange other ≡ completes_alone s.program.eager (posting_of s.program other))) same
-    (from_partner (exchange_of old) posting result (λ other. is_complete program (exchange_of old) other ≡ completes_alone program.eager (posting_of program other)) is
+    (from_partner (exchange_of old) posting result (λ other. is_complete program (exchange_of old) other
+    ≡ completes_alone program.eager (posting_of program other)) is
     (λ made at. waiting_complete program (exchange_of old) (other_of posting made)
     (partner_before (exchange_of old) posting made (placed_in program eager old slots req slot cells posting found) at found.kept.accounted)))
 
 -- a partner is complete after the posting
-taken_complete : (program : Program) (exchange : Exchange) (req : ReqNo) (posting : Posting) (made : Match) → IsOf req posting → match_made exchange posting ≡ Some made
+taken_complete : (program : Program) (exchange : Exchange) (req : ReqNo) (posting : Posting) (made : Match) → IsOf req posting
+    → match_made exchange posting ≡ Some made
     → is_posted exchange (other_of posting made) ≡ true → is_complete program (exchange_after exchange req posting) (other_of posting made) ≡ true
 unfolding is_complete
 taken_complete program exchange req posting made own at posted =
@@ -223,8 +240,10 @@ taken_complete program exchange req posting made own at posted =
     (matched_after exchange req other posting
     ∙ or_right (is_some (match_with exchange.matches other)) (is_some (match_with (option_to_list (match_made exchange posting)) other)) matched)
 
-pub completed_for : (program : Program) (eager : ℕ) (old new : Traffic) (slots : List (List Slot)) (req : ReqNo) (slot : Slot) (cells : List ℤ) (posting : Posting) (result : Option ReqNo)
-    → Finds program eager old slots req slot cells posting → exchange_of new ≡ exchange_after (exchange_of old) req posting → result ≡ partner_of (exchange_of old) posting
+pub completed_for : (program : Program) (eager : ℕ) (old new : Traffic) (slots : List (List Slot)) (req : ReqNo) (slot : Slot) (cells : List ℤ)
+    (posting : Posting) (result : Option ReqNo)
+    → Finds program eager old slots req slot cells posting → exchange_of new ≡ exchange_after (exchange_of old) req posting
+    → result ≡ partner_of (exchange_of old) posting
     → IfSome result (λ other. is_complete program (exchange_of new) other ≡ true)
 completed_for program eager old new slots req slot cells posting result found exchange is =
     subst (λ (e : Exchange). IfSome result (λ other. is_complete program e other ≡ true)) (sym exchange)
@@ -242,7 +261,7 @@ complete_cases eager call false place = refl
 
 -- a request is complete where its slot says so
 pub complete_for : (program : Program) (eager : ℕ) (traffic : Traffic) (slots : List (List Slot)) (req : ReqNo) (slot : Slot) (now : Switch)
-    → IsKept program eager traffic slots → switch program traffic ≡ now → slot_at slots req ≡ Some slot
+    → KeepsExchange program eager traffic slots → switch program traffic ≡ now → slot_at slots req ≡ Some slot
     → complete_by eager slot.call slot.progress ≡ is_complete now.program now.exchange req
 unfolding is_complete
 complete_for program eager traffic slots req slot now kept same at =
@@ -254,27 +273,38 @@ complete_for program eager traffic slots req slot now kept same at =
     ∙ complete_cases eager slot.call (is_posted exchange req) (position (is_party req) exchange.matches)
     ∙ ap (λ (b : Bool). is_posted exchange req && (b || completes_at_once eager slot.call.how slot.call.span slot.call.peer))
     (sym (find_or_position (is_party req) exchange.matches))
-    ∙ ap (λ (n : ℕ). is_posted exchange req && (is_some (match_with exchange.matches req) || completes_at_once n slot.call.how slot.call.span slot.call.peer)) kept.limit
+    ∙ ap (λ (n : ℕ). is_posted exchange req && (is_some (match_with exchange.matches req) || completes_at_once n slot.call.how slot.call.span slot.call.peer))
+    kept.limit
     ∙ ap (λ (b : Bool). is_posted exchange req && (is_some (match_with exchange.matches req) || b)) (sym (call_alone program req slot.call says.call_is)))
 
 -- a request completes by itself where its call does
 pub alone_for : (program : Program) (eager : ℕ) (traffic : Traffic) (slots : List (List Slot)) (req : ReqNo) (slot : Slot) (now : Switch)
-    → IsKept program eager traffic slots → switch program traffic ≡ now → slot_at slots req ≡ Some slot
+    → KeepsExchange program eager traffic slots → switch program traffic ≡ now → slot_at slots req ≡ Some slot
     → completes_at_once eager slot.call.how slot.call.span slot.call.peer ≡ completes_alone now.program.eager (posting_of now.program req)
 alone_for program eager traffic slots req slot now kept same at =
     let says = slot_says program eager traffic slots req slot kept at in
-    subst (λ (s : Switch). completes_at_once eager slot.call.how slot.call.span slot.call.peer ≡ completes_alone s.program.eager (posting_of s.program req)) same
+    subst (λ (s : Switch). completes_at_once eager slot.call.how slot.call.span slot.call.peer
+    ≡ completes_alone s.program.eager (posting_of s.program req)) same
     (ap (λ (n : ℕ). completes_at_once n slot.call.how slot.call.span slot.call.peer) kept.limit ∙ sym (call_alone program req slot.call says.call_is))
+
+-- the span of a request is that of its call
+pub span_for : (program : Program) (eager : ℕ) (traffic : Traffic) (slots : List (List Slot)) (req : ReqNo) (slot : Slot) (now : Switch)
+    → KeepsExchange program eager traffic slots → switch program traffic ≡ now → slot_at slots req ≡ Some slot
+    → HasSpan (posting_of now.program req) slot.call.span
+span_for program eager traffic slots req slot now kept same at =
+    let says = slot_says program eager traffic slots req slot kept at in
+    subst (λ (s : Switch). HasSpan (posting_of s.program req) slot.call.span) same (span_is_call program req slot.call says.call_is)
 
 -- a request without a slot isn't complete
 pub none_for : (program : Program) (eager : ℕ) (traffic : Traffic) (slots : List (List Slot)) (req : ReqNo) (now : Switch)
-    → IsKept program eager traffic slots → switch program traffic ≡ now → slot_at slots req ≡ None → false ≡ is_complete now.program now.exchange req
+    → KeepsExchange program eager traffic slots → switch program traffic ≡ now → slot_at slots req ≡ None → false ≡ is_complete now.program now.exchange req
 unfolding is_complete
 none_for program eager traffic slots req now kept same none =
     let exchange = exchange_of traffic in
     let unposted : is_posted exchange req ≡ false =
     false_from_ne_true (is_posted exchange req) (λ posted. false≢true (sym (ap is_some none) ∙ posted_has_slot program eager traffic slots req kept posted)) in
-    subst (λ (s : Switch). false ≡ (is_posted s.exchange req && (is_some (match_with s.exchange.matches req) || completes_alone s.program.eager (posting_of s.program req)))) same
+    subst (λ (s : Switch). false
+    ≡ (is_posted s.exchange req && (is_some (match_with s.exchange.matches req) || completes_alone s.program.eager (posting_of s.program req)))) same
     (ap (λ (b : Bool). b && (is_some (match_with exchange.matches req) || completes_alone program.eager (posting_of program req))) (sym unposted))
 
 posted_since : (program : Program) (exchange : Exchange) (req : ReqNo) → is_complete program exchange req ≡ true → is_posted exchange req ≡ true
@@ -283,7 +313,8 @@ posted_since program exchange req complete =
     (and_parts (is_posted exchange req) (is_some (match_with exchange.matches req) || completes_alone program.eager (posting_of program req)) complete).0
 
 -- a complete request was posted, and has a slot
-pub complete_posted : (program : Program) (traffic : Traffic) (req : ReqNo) (now : Switch) → switch program traffic ≡ now → is_complete now.program now.exchange req ≡ true
+pub complete_posted : (program : Program) (traffic : Traffic) (req : ReqNo) (now : Switch) → switch program traffic ≡ now
+    → is_complete now.program now.exchange req ≡ true
     → is_posted (exchange_of traffic) req ≡ true
 complete_posted program traffic req now same complete =
     posted_since program (exchange_of traffic) req (subst (λ (s : Switch). is_complete s.program s.exchange req ≡ true) (sym same) complete)
@@ -301,7 +332,7 @@ match_is exchange req slot is posted =
 
 -- the status and the cells of a complete request
 pub status_for : (program : Program) (eager : ℕ) (traffic : Traffic) (slots : List (List Slot)) (req : ReqNo) (slot : Slot) (now : Switch)
-    → IsKept program eager traffic slots → switch program traffic ≡ now → slot_at slots req ≡ Some slot → is_complete now.program now.exchange req ≡ true
+    → KeepsExchange program eager traffic slots → switch program traffic ≡ now → slot_at slots req ≡ Some slot → is_complete now.program now.exchange req ≡ true
     → call_status slot.call (match_of traffic.matches.items slot.progress) ≡ request_status now.program now.exchange req
 unfolding request_status
 status_for program eager traffic slots req slot now kept same at complete =
@@ -311,7 +342,7 @@ status_for program eager traffic slots req slot now kept same at complete =
     ∙ sym (status_is_call program req slot.call (match_with (exchange_of traffic).matches req) says.call_is))
 
 pub cells_for : (program : Program) (eager : ℕ) (traffic : Traffic) (slots : List (List Slot)) (req : ReqNo) (slot : Slot) (now : Switch)
-    → IsKept program eager traffic slots → switch program traffic ≡ now → slot_at slots req ≡ Some slot → is_complete now.program now.exchange req ≡ true
+    → KeepsExchange program eager traffic slots → switch program traffic ≡ now → slot_at slots req ≡ Some slot → is_complete now.program now.exchange req ≡ true
     → call_cells slot.call (match_of traffic.matches.items slot.progress) ≡ request_cells now.program now.exchange req
 unfolding request_cells
 cells_for program eager traffic slots req slot now kept same at complete =
@@ -339,27 +370,36 @@ mapped_twice f g (Some x) = refl
 -- as many slots as the program has requests
 pub slots_counted : (program : Program) (slots : List (List Slot)) → WellFormed program → slots ≡ fresh_slots program → sum_by length slots < 2 ^ 63
 slots_counted program slots well is =
-    omega (arith, ap (λ (s : List (List Slot)). sum_by length s) is, sum_by-map length fresh_row program.tasks.items, rows_counted program.tasks.items, well.requests)
+    omega (
+      arith,
+      ap (λ (s : List (List Slot)). sum_by length s) is,
+      sum_by-map length fresh_row program.tasks.items,
+      rows_counted program.tasks.items,
+      well.requests,
+    )
 
 fresh_slot_is : (program : Program) (req : ReqNo) (ranks : ℕ) (o : Option TaskDef)
     → option_and_then (λ (row : List Slot). slice_get row req.nth) (option_map fresh_row o)
-    ≡ option_map (slot_of (silent ranks) req) (option_and_then (λ (task : TaskDef). option_map (call_by task.rank) (slice_get (filter is_posting task.body.items) req.nth)) o)
+    ≡ option_map (slot_of (silent ranks) req)
+    (option_and_then (λ (task : TaskDef). option_map (call_by task.rank) (slice_get (filter is_posting task.body.items) req.nth)) o)
 fresh_slot_is program req ranks None = refl
 fresh_slot_is program req ranks (Some task) =
     slice_get-map (fresh_slot task.rank) (filter is_posting task.body.items) req.nth
     ∙ mapped_twice (call_by task.rank) (slot_of (silent ranks) req) (slice_get (filter is_posting task.body.items) req.nth)
 
 -- the parts belong together at the start
-pub kept_at_start : (program : Program) (eager : ℕ) (traffic : Traffic) (slots : List (List Slot)) → WellFormed program → eager ≡ program.eager → slots ≡ fresh_slots program
+pub kept_at_start : (program : Program) (eager : ℕ) (traffic : Traffic) (slots : List (List Slot)) → WellFormed program → eager ≡ program.eager
+    → slots ≡ fresh_slots program
     → exchange_of traffic ≡ silent program.ranks → traffic.posted.room ≡ slots_that is_open slots → traffic.matches.room ≡ slots_that is_open slots
-    → ((rank : ℕ) → rank < program.ranks → room_at traffic rank ≡ slots_that (is_due rank) slots) → IsKept program eager traffic slots
+    → ((rank : ℕ) → rank < program.ranks → room_at traffic rank ≡ slots_that (is_due rank) slots) → KeepsExchange program eager traffic slots
 kept_at_start program eager traffic slots well limit slots_is is posted matches queues =
     record {
       well = well;
       limit = limit;
       ranks = sym (mailboxes_counted traffic) ∙ ap (λ (e : Exchange). length e.mailboxes) is ∙ length-replicate program.ranks no_mail;
       slots_are = λ req. ap (λ (s : List (List Slot)). slot_at s req) slots_is
-          ∙ ap (λ (o : Option (List Slot)). option_and_then (λ (row : List Slot). slice_get row req.nth) o) (slice_get-map fresh_row program.tasks.items req.task.0)
+          ∙ ap (λ (o : Option (List Slot)). option_and_then (λ (row : List Slot). slice_get row req.nth) o)
+          (slice_get-map fresh_row program.tasks.items req.task.0)
           ∙ fresh_slot_is program req program.ranks (slice_get program.tasks.items req.task.0)
           ∙ ap (λ (e : Exchange). option_map (slot_of e req) (call_of program req)) (sym is);
       accounted = subst IsAccounted (sym is) (λ q. omega (arith, sum_by-replicate (in_mailbox q) program.ranks no_mail));
@@ -371,7 +411,8 @@ kept_at_start program eager traffic slots well limit slots_is is posted matches 
 
 -- what a send finds, and what a receive finds
 pub finds_send : (program : Program) (eager : ℕ) (old : Traffic) (slots : List (List Slot)) (req : ReqNo) (slot : Slot) (cells : List ℤ) (now : Switch)
-    → IsKept program eager old slots → switch program old ≡ now → slot_at slots req ≡ Some slot → is_posted now.exchange req ≡ false → IsSend now.program req (length cells)
+    → KeepsExchange program eager old slots → switch program old ≡ now → slot_at slots req ≡ Some slot → is_posted now.exchange req ≡ false
+    → IsSend now.program req (length cells)
     → Finds program eager old slots req slot cells (sent_by req slot.call.rank slot.call.peer slot.call.tag slot.call.comm cells)
 finds_send program eager old slots req slot cells now kept same at fresh sends =
     let says = slot_says program eager old slots req slot kept at in
@@ -384,7 +425,8 @@ finds_send program eager old slots req slot cells now kept same at fresh sends =
     }
 
 pub finds_receive : (program : Program) (eager : ℕ) (old : Traffic) (slots : List (List Slot)) (req : ReqNo) (slot : Slot) (now : Switch)
-    → IsKept program eager old slots → switch program old ≡ now → slot_at slots req ≡ Some slot → is_posted now.exchange req ≡ false → IsReceive now.program req
+    → KeepsExchange program eager old slots → switch program old ≡ now → slot_at slots req ≡ Some slot → is_posted now.exchange req ≡ false
+    → IsReceive now.program req
     → Finds program eager old slots req slot [] (asked_by req slot.call.rank slot.call.peer slot.call.tag slot.call.comm)
 finds_receive program eager old slots req slot now kept same at fresh receives =
     let says = slot_says program eager old slots req slot kept at in
@@ -398,13 +440,13 @@ finds_receive program eager old slots req slot now kept same at fresh receives =
 
 -- a send or a receive of the program has a slot
 pub send_has_slot : (program : Program) (eager : ℕ) (old : Traffic) (slots : List (List Slot)) (req : ReqNo) (count : ℕ) (now : Switch)
-    → IsKept program eager old slots → switch program old ≡ now → IsSend now.program req count → IsSome (slot_at slots req)
+    → KeepsExchange program eager old slots → switch program old ≡ now → IsSend now.program req count → IsSome (slot_at slots req)
 send_has_slot program eager old slots req count now kept same sends =
     has_slot program (exchange_of old) slots req (call_of program req) (kept.slots_are req)
     (send_has_call program req count (subst (λ (s : Switch). IsSend s.program req count) (sym same) sends))
 
 pub receive_has_slot : (program : Program) (eager : ℕ) (old : Traffic) (slots : List (List Slot)) (req : ReqNo) (now : Switch)
-    → IsKept program eager old slots → switch program old ≡ now → IsReceive now.program req → IsSome (slot_at slots req)
+    → KeepsExchange program eager old slots → switch program old ≡ now → IsReceive now.program req → IsSome (slot_at slots req)
 receive_has_slot program eager old slots req now kept same receives =
     has_slot program (exchange_of old) slots req (call_of program req) (kept.slots_are req)
     (recv_has_call program req (subst (λ (s : Switch). IsReceive s.program req) (sym same) receives))

@@ -19,9 +19,15 @@ exchange posted mailboxes matches = record { posted = posted; mailboxes = mailbo
 -- an exchange is its three lists
 pub same_lists : {posted posted' : List ReqNo} {mailboxes mailboxes' : List Mailbox} {matches matches' : List Match}
     → posted ≡ posted' → mailboxes ≡ mailboxes' → matches ≡ matches'
-    → ◌≡◌ {A = Exchange} (record { posted = posted; mailboxes = mailboxes; matches = matches }) (record { posted = posted'; mailboxes = mailboxes'; matches = matches' })
+    → ◌≡◌ {A = Exchange} (record { posted = posted; mailboxes = mailboxes; matches = matches }) (record {
+      posted = posted';
+      mailboxes = mailboxes';
+      matches =
+          matches';
+    })
 same_lists {posted} {posted'} {mailboxes} {mailboxes'} {matches} {matches'} p m e =
-    ap (λ (x : List ReqNo). exchange x mailboxes matches) p ∙ ap (λ (x : List Mailbox). exchange posted' x matches) m ∙ ap (λ (x : List Match). exchange posted' mailboxes' x) e
+    ap (λ (x : List ReqNo). exchange x mailboxes matches) p ∙ ap (λ (x : List Mailbox). exchange posted' x matches) m
+    ∙ ap (λ (x : List Match). exchange posted' mailboxes' x) e
 
 -- the mailbox of a rank is that of its queues
 pub mailbox_here : (shelves : List Shelf) (rank : ℕ) (here : Shelf) → rank < length shelves → here ≡ get_or shelves rank here
@@ -41,32 +47,40 @@ pub exchange_sent : (inside old : Traffic) (to : ℕ) (given message : Message) 
     → inside ≡ old → given ≡ message → to < length old.shelves → here ≡ get_or inside.shelves to here
     → there.mailbox ≡ send here.mailbox message
     → posted ≡ inside.posted.items ++ given.request ∷ []
-    → matches ≡ inside.matches.items ++ option_to_list (option_map (λ (found : Receive). match message found) (element here.mailbox.receives (place_of_receive here.mailbox message)))
-    → exchange posted (map (λ (shelf : Shelf). shelf.mailbox) (set inside.shelves to there)) matches ≡ exchange_after (exchange_of old) message.request (Sent to message)
+    → matches ≡ inside.matches.items ++ option_to_list
+    (option_map (λ (found : Receive). match message found) (element here.mailbox.receives (place_of_receive here.mailbox message)))
+    → exchange posted (map (λ (shelf : Shelf). shelf.mailbox) (set inside.shelves to there)) matches
+    ≡ exchange_after (exchange_of old) message.request (Sent to message)
 exchange_sent inside old to given message here there posted matches same given_is below here_is there_is posted_is matches_is =
     let within : to < length inside.shelves = subst (λ (t : Traffic). to < length t.shelves) (sym same) below in
     let found : get_or (map (λ (shelf : Shelf). shelf.mailbox) inside.shelves) to no_mail ≡ here.mailbox = mailbox_here inside.shelves to here within here_is in
-    subst (λ (t : Traffic). exchange posted (map (λ (shelf : Shelf). shelf.mailbox) (set inside.shelves to there)) matches ≡ exchange_after (exchange_of t) message.request (Sent to message)) same
+    subst (λ (t : Traffic). exchange posted (map (λ (shelf : Shelf). shelf.mailbox) (set inside.shelves to there)) matches
+    ≡ exchange_after (exchange_of t) message.request (Sent to message)) same
     (same_lists (posted_is ∙ ap (λ (m : Message). inside.posted.items ++ m.request ∷ []) given_is)
     (mailboxes_set inside.shelves to there (send here.mailbox message) there_is
     ∙ ap (λ (box : Mailbox). set (map (λ (shelf : Shelf). shelf.mailbox) inside.shelves) to (send box message)) (sym found))
-    (matches_is ∙ ap (λ (box : Mailbox). inside.matches.items ++ option_to_list (option_map (λ (found : Receive). match message found) (element box.receives (place_of_receive box message)))) (sym found)))
+    (matches_is ∙ ap (λ (box : Mailbox). inside.matches.items ++ option_to_list
+    (option_map (λ (found : Receive). match message found) (element box.receives (place_of_receive box message)))) (sym found)))
 
 -- a receive came to the queues of a rank
 pub exchange_asked : (inside old : Traffic) (at : ℕ) (given wish : Receive) (here there : Shelf) (posted : List ReqNo) (matches : List Match)
     → inside ≡ old → given ≡ wish → at < length old.shelves → here ≡ get_or inside.shelves at here
     → there.mailbox ≡ receive here.mailbox wish
     → posted ≡ inside.posted.items ++ given.request ∷ []
-    → matches ≡ inside.matches.items ++ option_to_list (option_map (λ (found : Message). match found wish) (element here.mailbox.messages (place_of_message here.mailbox wish)))
-    → exchange posted (map (λ (shelf : Shelf). shelf.mailbox) (set inside.shelves at there)) matches ≡ exchange_after (exchange_of old) wish.request (Asked at wish)
+    → matches ≡ inside.matches.items ++ option_to_list
+    (option_map (λ (found : Message). match found wish) (element here.mailbox.messages (place_of_message here.mailbox wish)))
+    → exchange posted (map (λ (shelf : Shelf). shelf.mailbox) (set inside.shelves at there)) matches
+    ≡ exchange_after (exchange_of old) wish.request (Asked at wish)
 exchange_asked inside old at given wish here there posted matches same given_is below here_is there_is posted_is matches_is =
     let within : at < length inside.shelves = subst (λ (t : Traffic). at < length t.shelves) (sym same) below in
     let found : get_or (map (λ (shelf : Shelf). shelf.mailbox) inside.shelves) at no_mail ≡ here.mailbox = mailbox_here inside.shelves at here within here_is in
-    subst (λ (t : Traffic). exchange posted (map (λ (shelf : Shelf). shelf.mailbox) (set inside.shelves at there)) matches ≡ exchange_after (exchange_of t) wish.request (Asked at wish)) same
+    subst (λ (t : Traffic). exchange posted (map (λ (shelf : Shelf). shelf.mailbox) (set inside.shelves at there)) matches
+    ≡ exchange_after (exchange_of t) wish.request (Asked at wish)) same
     (same_lists (posted_is ∙ ap (λ (w : Receive). inside.posted.items ++ w.request ∷ []) given_is)
     (mailboxes_set inside.shelves at there (receive here.mailbox wish) there_is
     ∙ ap (λ (box : Mailbox). set (map (λ (shelf : Shelf). shelf.mailbox) inside.shelves) at (receive box wish)) (sym found))
-    (matches_is ∙ ap (λ (box : Mailbox). inside.matches.items ++ option_to_list (option_map (λ (found : Message). match found wish) (element box.messages (place_of_message box wish)))) (sym found)))
+    (matches_is ∙ ap (λ (box : Mailbox). inside.matches.items ++ option_to_list
+    (option_map (λ (found : Message). match found wish) (element box.messages (place_of_message box wish)))) (sym found)))
 
 -- what is kept after a posting at a rank
 abbrev pub changed : Traffic → ℕ → Shelf → Listing ReqNo → Listing Match → Traffic
@@ -115,7 +129,8 @@ pub one_match : (matches after : List Match) (found : Match) (made : Option Matc
 one_match matches after found made some is = is ∙ ap (λ (o : Option Match). matches ++ option_to_list o) some
 
 -- a posting that has room has it where it goes
-pub room_here : (inside old : Traffic) (rank : ℕ) (here : Shelf) (posting : Posting) → inside ≡ old → rank < length old.shelves → here ≡ get_or inside.shelves rank here
+pub room_here : (inside old : Traffic) (rank : ℕ) (here : Shelf) (posting : Posting) → inside ≡ old → rank < length old.shelves
+    → here ≡ get_or inside.shelves rank here
     → taken_at posting rank ≡ 1 → HasRoomFor old posting → 0 < here.room
 room_here inside old rank here posting same below here_is taken room =
     let room_of : Shelf → ℕ = λ shelf. shelf.room in
@@ -124,9 +139,12 @@ room_here inside old rank here posting same below here_is taken room =
     omega (arith, found, taken, room.queues rank)
 
 -- one rank more, with empty queues
-pub one_rank_more : (shelves new : List Shelf) (shelf : Shelf) (rank : ℕ) (room : ℕ → ℕ) → new ≡ shelves ++ shelf ∷ [] → shelf.mailbox ≡ no_mail → shelf.room ≡ room rank
-    → (map (λ (shelf : Shelf). shelf.mailbox) shelves ≡ replicate rank no_mail) × (map (λ (shelf : Shelf). shelf.room) shelves ≡ map room (range_with_len 0 rank))
-    → (map (λ (shelf : Shelf). shelf.mailbox) new ≡ replicate (rank + 1) no_mail) × (map (λ (shelf : Shelf). shelf.room) new ≡ map room (range_with_len 0 (rank + 1)))
+pub one_rank_more : (shelves new : List Shelf) (shelf : Shelf) (rank : ℕ) (room : ℕ → ℕ) → new ≡ shelves ++ shelf ∷ [] → shelf.mailbox ≡ no_mail
+    → shelf.room ≡ room rank
+    → (map (λ (shelf : Shelf). shelf.mailbox) shelves ≡ replicate rank no_mail)
+    × (map (λ (shelf : Shelf). shelf.room) shelves ≡ map room (range_with_len 0 rank))
+    → (map (λ (shelf : Shelf). shelf.mailbox) new ≡ replicate (rank + 1) no_mail)
+    × (map (λ (shelf : Shelf). shelf.room) new ≡ map room (range_with_len 0 (rank + 1)))
 one_rank_more shelves new shelf rank room is empty room_is so_far =
     let mailbox : Shelf → Mailbox = λ shelf. shelf.mailbox in
     let room_of : Shelf → ℕ = λ shelf. shelf.room in (

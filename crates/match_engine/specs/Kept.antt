@@ -25,7 +25,7 @@ abbrev pub IsAccounted : Exchange → Type 0
 IsAccounted exchange = (req : ReqNo) → occurrences exchange req ≤ cond (is_posted exchange req) 1 0
 
 -- the parts of an engine belong together
-pub record IsKept (program : Program) (eager : ℕ) (traffic : Traffic) (slots : List (List Slot)) : Type 0 where
+pub record KeepsExchange (program : Program) (eager : ℕ) (traffic : Traffic) (slots : List (List Slot)) : Type 0 where
   pub well : WellFormed program
   pub limit : eager ≡ program.eager
   pub ranks : length traffic.shelves ≡ program.ranks

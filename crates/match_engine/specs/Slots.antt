@@ -1,17 +1,15 @@
 -- How the engine keeps what each request of the program asks for, and what became of it. No public clause cites this module.
 use Rattle.std.specs.Prelude.{ℕ, Bool, true, false, ◌==◌, ◌&&◌, List, [], map, filter, count_by, sum_by, slice_get, slice_set, slice_index_or, position, Option, Some, None, option_map, option_and_then, if◌then◌else◌, ℤ}
 use Rattle.rt_base.specs.declared.data.ReqNo.{ReqNo}
-use Rattle.rt_base.specs.declared.data.How.{How}
 use Rattle.rt_base.specs.declared.data.How.TheVariants as how
 use Rattle.rt_base.specs.declared.data.Peer.{Peer}
 use Rattle.rt_base.specs.declared.data.Peer.TheVariants as peer
 use Rattle.rt_base.specs.declared.data.TagSel.TheVariants as tag
 use Rattle.rt_base.specs.declared.data.Op.{Op}
-use Rattle.rt_base.specs.declared.data.Op.TheVariants as op
 use Rattle.rt_base.specs.declared.data.TaskDef.{TaskDef}
 use Rattle.rt_base.specs.declared.data.Program.{Program}
 use Rattle.rt_base.specs.declared.data.Status.{Status}
-use Rattle.rt_base.specs.Operations.{is_posting, is_receive}
+use Rattle.rt_base.specs.Operations.{is_posting, posting_parts, given, is_receive}
 use Rattle.rt_base.specs.Exchange.{Exchange, Match}
 use Rattle.rt_base.specs.Completion.{is_party, is_posted, completes_at_once, receive_status, receive_cells, empty_status}
 use Rattle.match_engine.specs.declared.slots.Call.{Call}
@@ -25,9 +23,9 @@ no_call rank = record { how = how.Ssend; span = record { array = 0; from = 0; to
 
 -- the fields of a posting operation, and the rank of its task
 abbrev pub call_by : ℕ → Op → Call
-call_by rank (op.Compute kernel dst left right value step) = no_call rank
-call_by rank (op.Post kind span whom selected comm status) = record { how = kind; span = span; peer = whom; tag = selected; comm = comm; rank = rank }
-call_by rank (op.Await later handles status) = no_call rank
+call_by rank operation =
+    given (no_call rank) (λ posted. record { how = posted.how; span = posted.span; peer = posted.peer; tag = posted.tag; comm = posted.comm; rank = rank })
+    (posting_parts operation)
 
 -- the slot of a request that isn't posted
 abbrev pub fresh_slot : ℕ → Op → Slot
@@ -60,27 +58,21 @@ abbrev pub settled : List (List Slot) → ReqNo → Option ReqNo → ℕ → Lis
 settled slots req None place = marked slots req Waits
 settled slots req (Some other) place = marked (marked slots req (Matched place)) other (Matched place)
 
+-- a message to this peer goes to the queues of the rank
 abbrev pub addresses : Peer → ℕ → Bool
 addresses (peer.Rank to) rank = to == rank
 addresses peer.Any rank = false
 addresses peer.Null rank = false
 
+-- a receive from this peer, posted by a task of the rank `own`, goes to the queues of the rank
 abbrev pub listens : Peer → ℕ → ℕ → Bool
 listens (peer.Rank from) own rank = own == rank
 listens peer.Any own rank = own == rank
 listens peer.Null own rank = false
 
-abbrev pub enters_by : How → Peer → ℕ → ℕ → Bool
-enters_by how.Send whom own rank = addresses whom rank
-enters_by how.Ssend whom own rank = addresses whom rank
-enters_by how.Recv whom own rank = listens whom own rank
-enters_by how.Isend whom own rank = addresses whom rank
-enters_by how.Issend whom own rank = addresses whom rank
-enters_by how.Irecv whom own rank = listens whom own rank
-
 -- a posting of this call takes a place in the queues of the rank
 abbrev pub enters : Call → ℕ → Bool
-enters call rank = enters_by call.how call.peer call.rank rank
+enters call rank = if is_receive call.how then listens call.peer call.rank rank else addresses call.peer rank
 
 abbrev pub is_unposted : Progress → Bool
 is_unposted Unposted = true

@@ -1,14 +1,12 @@
 //! When a request is complete, what it stores, and its status.
 
 ghost use Rattle.std.specs.Prelude.{◌≡◌, ℕ, ◌+◌, ◌-◌, ◌≤◌, length, option_copied};
-ghost use Rattle.rt_base.specs.Spans.{span_len};
-ghost use Rattle.rt_base.specs.Operations.{is_receive, is_standard};
 ghost use Rattle.rt_base.specs.Completion.{is_null, completes_at_once, stored_cells, empty_status, null_status, message_status, receive_status};
 ghost use Rattle.match_engine.specs.Slots.{complete_by, call_status, call_cells};
 
 use crate::mail::{Match, Message};
 use crate::slots::{Call, Progress};
-use rt_base::{How, Peer, Span, Status};
+use rt_base::{Peer, Span, Status};
 
 /// Whether a request of this call is complete, once it got so far (MPI 4.0, 3.4 and 3.7.3).
 pub fn is_complete(eager: u32, call: Call, progress: Progress) -> bool
@@ -25,7 +23,7 @@ pub fn is_complete(eager: u32, call: Call, progress: Progress) -> bool
 pub fn status(call: Call, found: Option<&Match>) -> Status
     ensures { result ≡ call_status call (option_copied found.entry) }
 {
-    if is_receive(call.how) {
+    if call.how.is_receive() {
         receive_status(call, found)
     } else {
         empty_status()
@@ -37,7 +35,7 @@ pub fn cells(call: Call, found: Option<&Match>) -> &[i64]
     ensures { result.now ≡ call_cells call (option_copied found.entry) }
 {
     match found {
-        Some(found) => if is_receive(call.how) {
+        Some(found) => if call.how.is_receive() {
             stored_cells(call.span, &found.message)
         } else {
             &[]
@@ -50,7 +48,7 @@ pub fn cells(call: Call, found: Option<&Match>) -> &[i64]
 pub fn completes_at_once(eager: u32, call: Call) -> bool
     ensures { result ≡ completes_at_once eager call.how call.span call.peer }
 {
-    is_null(call.peer) || is_standard(call.how) && span_len(call.span) <= eager
+    is_null(call.peer) || call.how.is_standard() && call.span.len() <= eager
 }
 
 // The status of a receive.
@@ -71,7 +69,7 @@ fn receive_status(call: Call, found: Option<&Match>) -> Status
 fn message_status(span: Span, message: &Message) -> Status
     ensures { result ≡ message_status span message.now }
 {
-    let room = span_len(span);
+    let room = span.len();
     let count = message.cells.len();
     let (count, error) = if (room as usize) < count {
         (room, 1)
@@ -91,7 +89,7 @@ fn stored_cells(span: Span, message: &Message) -> &[i64]
     ensures { result.now ≡ stored_cells span message.now }
 {
     let cells = message.cells.as_slice();
-    let room = span_len(span) as usize;
+    let room = span.len() as usize;
     if room < cells.len() {
         &cells[..room]
     } else {
@@ -123,13 +121,6 @@ fn null_status() -> Status
     }
 }
 
-// How many cells the span has.
-fn span_len(span: Span) -> u32
-    ensures { result ≡ span_len span }
-{
-    span.to.saturating_sub(span.from)
-}
-
 // To or from the null process.
 fn is_null(peer: Peer) -> bool
     ensures { result ≡ is_null peer }
@@ -138,25 +129,5 @@ fn is_null(peer: Peer) -> bool
         Peer::Rank(_) => false,
         Peer::Any => false,
         Peer::Null => true,
-    }
-}
-
-// A send in standard mode.
-fn is_standard(how: How) -> bool
-    ensures { result ≡ is_standard how }
-{
-    match how {
-        How::Send | How::Isend => true,
-        How::Ssend | How::Issend | How::Recv | How::Irecv => false,
-    }
-}
-
-// A receive.
-fn is_receive(how: How) -> bool
-    ensures { result ≡ is_receive how }
-{
-    match how {
-        How::Recv | How::Irecv => true,
-        How::Send | How::Ssend | How::Isend | How::Issend => false,
     }
 }

@@ -5,12 +5,12 @@ ghost use Rattle.rt_base.specs.Operations.{posting_of};
 ghost use Rattle.rt_base.specs.Exchange.{silent, post, partner};
 ghost use Rattle.rt_base.specs.Completion.{is_posted, is_complete, completes_alone, request_status, request_cells};
 ghost use Rattle.rt_base.specs.WellFormed.{WellFormed};
-ghost use Rattle.match_engine.specs.Requests.{IsSend, IsReceive};
+ghost use Rattle.match_engine.specs.Requests.{IsSend, IsReceive, HasSpan};
 
 use crate::completion::{cells, completes_at_once, is_complete, status};
 use crate::exchange::Exchange;
 use crate::slots::Slots;
-use rt_base::{Cells, Program, ReqNo, Status};
+use rt_base::{Cells, Program, ReqNo, Span, Status};
 use std::alloc::{AllocError, Global};
 use std::marker::Model;
 use std::snapshot::Snapshot;
@@ -28,13 +28,13 @@ pub struct Engine {
 impl Model for Engine {
     ghost use Rattle.match_engine.specs.Switch.{Switch};
     ghost use Rattle.match_engine.specs.Queues.{exchange_of};
-    ghost use Rattle.match_engine.specs.Kept.{IsKept};
+    ghost use Rattle.match_engine.specs.Kept.{KeepsExchange};
 
     ghost Value = { Switch };
 
     ghost view = { λ e. record { program = e.program.value; exchange = exchange_of e.exchange } };
 
-    ghost invariant = { λ e. IsKept e.program.value e.eager e.exchange e.slots };
+    ghost invariant = { λ e. KeepsExchange e.program.value e.eager e.exchange e.slots };
 }
 
 impl Engine {
@@ -116,6 +116,15 @@ impl Engine {
     {
         let slot = self.slots.get(req);
         completes_at_once(self.eager, slot.call)
+    }
+
+    /// The span of a complete request: the cells that a send took, and those into which a receive stores (MPI 4.0, 3.2.1 and 3.2.4). In constant time.
+    pub fn span(&self, req: ReqNo) -> Span
+        requires { is_complete self.now.program self.now.exchange req ≡ true }
+        ensures { HasSpan (posting_of self.now.program req) result }
+    {
+        let slot = self.slots.get(req);
+        slot.call.span
     }
 
     /// The status of a complete request (MPI 4.0, 3.2.5, 3.7.3 and 3.11), in constant time.

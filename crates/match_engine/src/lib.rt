@@ -12,4 +12,7 @@ mod slots;
 mod tests;
 
 pub use engine::Engine;
-pub use laws::{messages_do_not_overtake, nothing_that_matches_is_left, receives_do_not_overtake};
+pub use laws::{
+    matches_are_posted, messages_do_not_overtake, messages_keep_order,
+    nothing_that_matches_is_left, receives_do_not_overtake, receives_keep_order,
+};

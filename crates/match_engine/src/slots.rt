@@ -236,9 +236,10 @@ fn is_due(slot: &Slot, rank: u16) -> bool
 fn enters(call: Call, rank: u16) -> bool
     ensures { result ≡ enters call rank }
 {
-    match call.how {
-        How::Send | How::Ssend | How::Isend | How::Issend => addresses(call.peer, rank),
-        How::Recv | How::Irecv => listens(call.peer, call.rank, rank),
+    if call.how.is_receive() {
+        listens(call.peer, call.rank, rank)
+    } else {
+        addresses(call.peer, rank)
     }
 }
 

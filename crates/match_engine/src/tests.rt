@@ -1,4 +1,5 @@
-//! Which message a receive takes, and the statuses, by the examples of MPI 4.0, chapter 3.
+//! Which message a receive takes (MPI 4.0, 3.2.4 and 3.5), and the statuses (MPI 4.0, 3.2.5; the numbers -1 and -2, the errors 0 and 1, the
+//! empty status of a send and the order between messages of different senders are this project's own).
 ghost use Rattle.std.specs.Prelude.{◌≡◌, IfOk};
 
 use crate::completion::{is_complete, status};
@@ -86,7 +87,7 @@ fn a_receive_takes_the_oldest_message_that_it_accepts(rt: HostRuntime) -> Result
 }
 
 #[test]
-fn statuses_are_those_of_the_standard(rt: HostRuntime) -> Result<(), Fail> {
+fn statuses_tell_the_source_the_tag_and_what_was_stored(rt: HostRuntime) -> Result<(), Fail> {
     let alloc = rt.alloc();
     let mut sent = message(alloc, 0, 0, 3, 7);
     sent.cells = Cells::from_vec([1, 2, 3].to_vec(alloc)?);

@@ -21,13 +21,17 @@ use Rattle.region_deps.proofs.Precedence.{before_all}
 use Rattle.region_deps.proofs.Starts.{never_marked, closed}
 
 -- links that suffice still do with others beside them
-full_more : (regions : List Region) (links links' : List Link) → ((l : Link) → Contains links l → Contains links' l) → IsFull regions links → IsFull regions links'
+full_more : (regions : List Region) (links links' : List Link) → ((l : Link) → Contains links l → Contains links' l) → IsFull regions links
+    → IsFull regions links'
 full_more regions links links' more full gone closed k j lt clash let_in =
-    full gone (λ s i within here gone_i. closed s i within (more (link s (task_at regions i)) here) gone_i) k j lt clash (λ s here. let_in s (more (link s (task_at regions j)) here))
+    full gone (λ s i within here gone_i. closed s i within (more (link s (task_at regions i)) here) gone_i) k j lt clash
+    (λ s here. let_in s (more (link s (task_at regions j)) here))
 
 -- the links of the accesses and those of the taskwaits together
-pub linked_up : (tasks : List TaskDef) (links links' : List Link) (heads : List ℕ) (regions regions' : List Region) (accesses : ℕ) → IsGrouped tasks heads → accesses ≡ region_count tasks →
-    regions ≡ regions_from 0 tasks → regions' ≡ regions → IsFull regions' links → IsSound regions' links → HasBarriers tasks heads accesses (length tasks) links links' → IsLinkedUp tasks links' heads
+pub linked_up : (tasks : List TaskDef) (links links' : List Link) (heads : List ℕ) (regions regions' : List Region) (accesses : ℕ) → IsGrouped tasks heads
+    → accesses ≡ region_count tasks →
+    regions ≡ regions_from 0 tasks → regions' ≡ regions → IsFull regions' links → IsSound regions' links
+    → HasBarriers tasks heads accesses (length tasks) links links' → IsLinkedUp tasks links' heads
 linked_up tasks links links' heads regions regions' accesses g count are same full sound b =
     let on_line : regions' ≡ regions_from 0 tasks = same ∙ are in
     record {
@@ -40,7 +44,8 @@ linked_up tasks links links' heads regions regions' accesses g count are same fu
       grouped = g;
     }
 
-linked_same : (tasks : List TaskDef) (links links' : List Link) (heads : List ℕ) → ((l : Link) → Contains links' l ↔ Contains links l) → IsLinkedUp tasks links heads → IsLinkedUp tasks links' heads
+linked_same : (tasks : List TaskDef) (links links' : List Link) (heads : List ℕ) → ((l : Link) → Contains links' l ↔ Contains links l)
+    → IsLinkedUp tasks links heads → IsLinkedUp tasks links' heads
 linked_same tasks links links' heads same up = record {
   full = full_more (regions_from 0 tasks) links links' (λ l here. (same l).1 here) up.full;
   sound = λ l here. up.sound l ((same l).0 here);
@@ -67,12 +72,17 @@ links_within tasks links heads accesses count up k d lt =
     ]
 
 -- at first no task was handed out, and all sources are there
-pub held_first : (tasks : List TaskDef) (links : List Link) (w : Waiting) (first heads heads' waiting : List ℕ) (released : List Bool) (accesses : ℕ) → IsOrderly tasks → All IsSmallTask tasks →
-    IsLinkedUp tasks links heads → length first ≡ length tasks + 1 → ((task : ℕ) → task ≤ length tasks → get_or first task 0 ≡ accesses_before tasks task) → accesses ≡ region_count tasks →
-    ((l : Link) → Contains w.links l ↔ Contains links l) → w.gone ≡ replicate (accesses + length tasks) false → w.handed ≡ replicate (length tasks) false → heads' ≡ heads →
-    length waiting ≡ length heads' → ((head : ℕ) → head < length heads' → get_or waiting head 0 ≡ count_by (λ x. x == head) heads') → released ≡ replicate (length tasks) false →
+pub held_first : (tasks : List TaskDef) (links : List Link) (w : Waiting) (first heads heads' waiting : List ℕ) (released : List Bool) (accesses : ℕ)
+    → IsOrderly tasks → All IsSmallTask tasks →
+    IsLinkedUp tasks links heads → length first ≡ length tasks + 1 → ((task : ℕ) → task ≤ length tasks → get_or first task 0 ≡ accesses_before tasks task)
+    → accesses ≡ region_count tasks →
+    ((l : Link) → Contains w.links l ↔ Contains links l) → w.gone ≡ replicate (accesses + length tasks) false → w.handed ≡ replicate (length tasks) false
+    → heads' ≡ heads →
+    length waiting ≡ length heads' → ((head : ℕ) → head < length heads' → get_or waiting head 0 ≡ count_by (λ x. x == head) heads')
+    → released ≡ replicate (length tasks) false →
     IsHeld tasks w first heads waiting released
-held_first tasks links w first heads heads' waiting released accesses orderly small up first_long starts count same there unhanded heads_are many sizes unreleased =
+held_first tasks links w first heads heads' waiting released accesses orderly small up first_long starts count same there unhanded heads_are many sizes
+    unreleased =
     let g = up.grouped in
     let long : length heads' ≡ length tasks = ap length heads_are ∙ g.long in
     let not_gone : (k : ℕ) → is_gone w.gone k ≡ false = λ k. ap (λ (l : List Bool). is_gone l k) there ∙ never_gone (accesses + length tasks) k in
@@ -88,19 +98,24 @@ held_first tasks links w first heads heads' waiting released accesses orderly sm
       handed_long = ap length unhanded ∙ length-replicate (length tasks) false;
       released_long = ap length unreleased ∙ length-replicate (length tasks) false;
       waiting_long = many ∙ long;
-      regions_gone = λ k lt. not_gone k ∙ sym (ap (λ (l : List Bool). get_or l (task_at (regions_from 0 tasks) k) false) unreleased ∙ never_gone (length tasks) (task_at (regions_from 0 tasks) k));
+      regions_gone = λ k lt. not_gone k ∙ sym (ap (λ (l : List Bool). get_or l (task_at (regions_from 0 tasks) k) false) unreleased
+          ∙ never_gone (length tasks) (task_at (regions_from 0 tasks) k));
       groups_gone = λ task lt.
           let head : ℕ = get_or heads task 0 in
           let one = get_or-le-sum_by (λ x. cond (x == head) 1 0) heads task 0 (omega (arith, lt, g.long)) in
           let counts = ap {B = ℕ} (λ (b : Bool). cond b 1 0) (eq-eqb head head refl) in
           let low = (g.each task lt).low in
-          not_gone (region_count tasks + head) ∙ sym (ne_eqb (get_or waiting head 0) 0 (λ f. absurd (omega (arith, f, sized head (omega (arith, low, lt)), one, counts))));
-      counted = λ head lt. sized head lt ∙ sym (held_at_first head heads) ∙ ap (λ (l : List Bool). held_of head heads l) (ap (λ (n : ℕ). replicate n false) g.long ∙ sym unreleased);
+          not_gone (region_count tasks + head) ∙ sym (ne_eqb (get_or waiting head 0) 0
+          (λ f. absurd (omega (arith, f, sized head (omega (arith, low, lt)), one, counts))));
+      counted = λ head lt. sized head lt ∙ sym (held_at_first head heads)
+          ∙ ap (λ (l : List Bool). held_of head heads l) (ap (λ (n : ℕ). replicate n false) g.long ∙ sym unreleased);
       let_in = λ task is. absurd (never_marked (length tasks) task (subst (λ (l : List Bool). slice_get l task ≡ Some true) unhanded is));
       started = λ task is. absurd (never_marked (length tasks) task (subst (λ (l : List Bool). slice_get l task ≡ Some true) unreleased is));
     }
 
 -- the number of all accesses, as it is read
 pub accesses_read : (tasks : List TaskDef) (first : List ℕ) (accesses : ℕ) → length first ≡ length tasks + 1 →
-    ((task : ℕ) → task ≤ length tasks → get_or first task 0 ≡ accesses_before tasks task) → accesses ≡ get_or first (length tasks) accesses → accesses ≡ region_count tasks
-accesses_read tasks first accesses long starts read = get_or_read first (length tasks) accesses (omega (arith, long)) read 0 ∙ starts (length tasks) (omega arith) ∙ before_all tasks
+    ((task : ℕ) → task ≤ length tasks → get_or first task 0 ≡ accesses_before tasks task) → accesses ≡ get_or first (length tasks) accesses
+    → accesses ≡ region_count tasks
+accesses_read tasks first accesses long starts read = get_or_read first (length tasks) accesses (omega (arith, long)) read 0
+    ∙ starts (length tasks) (omega arith) ∙ before_all tasks

@@ -75,11 +75,13 @@ at_laid : (bounds : List ℕ) (regions : List Region) (k : ℕ) → k < length r
 at_laid bounds regions k lt = get_or-map (laid bounds) regions k nothing nothing lt
 
 -- a region covers a bound exactly where it covers the segment that begins there
-lies_laid : (bounds : List ℕ) → ((i j : ℕ) → i ≤ j → j < length bounds → get_or bounds i 0 ≤ get_or bounds j 0) → (region : Region) (at : ℕ) → Contains bounds at →
+lies_laid : (bounds : List ℕ) → ((i j : ℕ) → i ≤ j → j < length bounds → get_or bounds i 0 ≤ get_or bounds j 0) → (region : Region) (at : ℕ)
+    → Contains bounds at →
     Lies region at → Lies (laid bounds region) (position_in bounds at)
 lies_laid bounds rises region at here lies = (position_le bounds at region.from lies.0, position_lt bounds rises at region.to here lies.1)
 
-lies_on_line : (bounds : List ℕ) → ((i j : ℕ) → i ≤ j → j < length bounds → get_or bounds i 0 ≤ get_or bounds j 0) → (region : Region) (at : ℕ) → Contains bounds at →
+lies_on_line : (bounds : List ℕ) → ((i j : ℕ) → i ≤ j → j < length bounds → get_or bounds i 0 ≤ get_or bounds j 0) → (region : Region) (at : ℕ)
+    → Contains bounds at →
     Lies (laid bounds region) (position_in bounds at) → Lies region at
 lies_on_line bounds rises region at here lies = elim (cases_lt at region.from) [
   | inl below ↦ absurd (omega (arith, lies.0, position_lt bounds rises at region.from here below))
@@ -97,7 +99,11 @@ clash_on_line regions bounds k j clash =
       within = j_in;
       meets = meets_on_line bounds (region_at regions k) (region_at regions j) (subst (λ (r : Region). Meets r (laid bounds (region_at regions j))) k_is
           (subst (λ (r : Region). Meets (region_at (map (laid bounds) regions) k) r) j_is clash.meets));
-      written = elim clash.written [ inl writes ↦ inl (sym (ap (λ (r : Region). r.writes) k_is) ∙ writes) | inr writes ↦ inr (sym (ap (λ (r : Region). r.writes) j_is) ∙ writes) ];
+      written = elim clash.written [
+        | inl writes ↦ inl (sym (ap (λ (r : Region). r.writes) k_is) ∙ writes)
+        | inr writes ↦ inr
+            (sym (ap (λ (r : Region). r.writes) j_is) ∙ writes)
+      ];
     }
 
 task_laid : (bounds : List ℕ) (regions : List Region) (k : ℕ) → k < length regions → task_at (map (laid bounds) regions) k ≡ task_at regions k
@@ -116,7 +122,11 @@ waits_laid regions bounds b at k j here waits =
         earlier = waits.clash.earlier;
         one = one;
         other = subst (λ (r : Region). Lies r (position_in bounds at)) (sym j_is) (lies_laid bounds b.rises (region_at regions j) at here waits.clash.other);
-        written = elim waits.clash.written [ inl writes ↦ inl (ap (λ (r : Region). r.writes) k_is ∙ writes) | inr writes ↦ inr (ap (λ (r : Region). r.writes) j_is ∙ writes) ];
+        written = elim waits.clash.written [
+          | inl writes ↦ inl (ap (λ (r : Region). r.writes) k_is ∙ writes)
+          | inr writes ↦ inr
+              (ap (λ (r : Region). r.writes) j_is ∙ writes)
+        ];
       };
       recent = record {
         earlier = waits.clash.earlier;
@@ -129,7 +139,8 @@ waits_laid regions bounds b at k j here waits =
     }
 
 -- the links that all segments ask for are those that the places ask for where regions begin
-linked_on_line : (regions : List Region) (bounds : List ℕ) (links : List Link) → IsBounds regions bounds → ((at : ℕ) → IsLinkedAt (map (laid bounds) regions) links at) → IsLinkedAll regions links
+linked_on_line : (regions : List Region) (bounds : List ℕ) (links : List Link) → IsBounds regions bounds
+    → ((at : ℕ) → IsLinkedAt (map (laid bounds) regions) links at) → IsLinkedAll regions links
 linked_on_line regions bounds links b linked at begins k j waits =
     let here : Contains bounds at = subst (Contains bounds) begins.begins (b.begins begins.region nothing begins.within) in
     subst (λ (t : ℕ). Contains links (link k t)) (task_laid bounds regions j (lies_within regions at j waits.clash.other))
@@ -142,18 +153,21 @@ sound_on_line regions bounds links sound k task here =
     record { region = w.region; of_task = sym (task_laid bounds regions w.region clash.within) ∙ w.of_task; clash = clash }
 
 -- each region begins at one of the places where regions begin
-pub begins_at : (regions : List Region) (places : List ℕ) → places ≡ map (λ (r : Region). r.from) regions → (k : ℕ) (d : Region) → k < length regions → Contains places (get_or regions k d).from
+pub begins_at : (regions : List Region) (places : List ℕ) → places ≡ map (λ (r : Region). r.from) regions → (k : ℕ) (d : Region) → k < length regions
+    → Contains places (get_or regions k d).from
 begins_at regions places e k d lt = subst (λ (l : List ℕ). Contains l (get_or regions k d).from) (sym e)
     (k, omega (arith, lt, length-map regions (λ (r : Region). r.from)), get_or-map (λ (r : Region). r.from) regions k d (get_or regions k d).from lt)
 
 -- the same of the lists as the code has them
-pub linked_laid : (regions : List Region) (bounds bounds' : List ℕ) (all all' : List Region) (links : List Link) → IsBounds regions bounds → bounds' ≡ bounds → all ≡ map (laid bounds') regions → all' ≡ all →
+pub linked_laid : (regions : List Region) (bounds bounds' : List ℕ) (all all' : List Region) (links : List Link) → IsBounds regions bounds → bounds' ≡ bounds
+    → all ≡ map (laid bounds') regions → all' ≡ all →
     ((at : ℕ) → IsLinkedAt all' links at) → IsLinkedAll regions links
 linked_laid regions bounds bounds' all all' links b same are copied linked =
     let laid_are : all' ≡ map (laid bounds) regions = copied ∙ are ∙ ap (λ (l : List ℕ). map (laid l) regions) same in
     linked_on_line regions bounds links b (subst (λ (r : List Region). (at : ℕ) → IsLinkedAt r links at) laid_are linked)
 
-pub sound_laid : (regions : List Region) (bounds bounds' : List ℕ) (all all' : List Region) (links : List Link) → bounds' ≡ bounds → all ≡ map (laid bounds') regions → all' ≡ all →
+pub sound_laid : (regions : List Region) (bounds bounds' : List ℕ) (all all' : List Region) (links : List Link) → bounds' ≡ bounds
+    → all ≡ map (laid bounds') regions → all' ≡ all →
     IsSound all' links → IsSound regions links
 sound_laid regions bounds bounds' all all' links same are copied sound =
     let laid_are : all' ≡ map (laid bounds) regions = copied ∙ are ∙ ap (λ (l : List ℕ). map (laid l) regions) same in

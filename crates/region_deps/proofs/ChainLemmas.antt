@@ -69,7 +69,8 @@ first_write regions at k (suc n) = elim (first_write regions at k n) [
 ]
 
 -- at one place, by way of the first write between the two, if there is one
-reached_upto : (regions : List Region) (links : List Link) (at : ℕ) → IsLinkedAt regions links at → (far k j : ℕ) → j ≤ k + far → ClashAt regions at k j → Reaches regions links at j k
+reached_upto : (regions : List Region) (links : List Link) (at : ℕ) → IsLinkedAt regions links at → (far k j : ℕ) → j ≤ k + far → ClashAt regions at k j
+    → Reaches regions links at j k
 reached_upto regions links at linked zero k j near clash = absurd (omega (arith, near, clash.earlier))
 reached_upto regions links at linked (suc far) k j near clash = elim (first_write regions at k j) [
   | inl w ↦
@@ -98,11 +99,23 @@ reached regions links all k j clash =
     let m = clash.meets in
     elim (cases_lt one.from other.from) [
       | inl below ↦
-          let c : ClashAt regions other.from k j = record { earlier = clash.earlier; one = (omega (arith, below), m.one_reaches); other = (omega arith, m.other_first); written = clash.written } in
+          let c : ClashAt regions other.from k j = record {
+            earlier = clash.earlier;
+            one = (omega (arith, below), m.one_reaches);
+            other =
+                (omega arith, m.other_first);
+            written = clash.written;
+          } in
           let linked = all other.from (record { region = j; within = clash.within; begins = refl }) in
           record { at = other.from; clash = c; reaches = reached_at regions links other.from linked k j c }
       | inr above ↦
-          let c : ClashAt regions one.from k j = record { earlier = clash.earlier; one = (omega arith, m.one_first); other = (above, m.other_reaches); written = clash.written } in
+          let c : ClashAt regions one.from k j = record {
+            earlier = clash.earlier;
+            one = (omega arith, m.one_first);
+            other =
+                (above, m.other_reaches);
+            written = clash.written;
+          } in
           let linked = all one.from (record { region = k; within = omega (arith, clash.earlier, clash.within); begins = refl }) in
           record { at = one.from; clash = c; reaches = reached_at regions links one.from linked k j c }
     ]

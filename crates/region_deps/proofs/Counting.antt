@@ -19,10 +19,18 @@ count_same p q (x ∷ xs) each =
     let later = count_same p q xs (All-tail (λ y. p y ≡ q y) x xs each) in
     omega (arith, sum_by-cons (λ y. cond (p y) 1 0) x xs, sum_by-cons (λ y. cond (q y) 1 0) x xs, ap {B = ℕ} (λ (b : Bool). cond b 1 0) here, later)
 
-pub count_sum : {X : Type 0} (p q r : X → Bool) (xs : List X) → ((x : X) → cond (p x) 1 0 ≡ cond (q x) 1 0 + cond (r x) 1 0) → count_by p xs ≡ count_by q xs + count_by r xs
+pub count_sum : {X : Type 0} (p q r : X → Bool) (xs : List X) → ((x : X) → cond (p x) 1 0 ≡ cond (q x) 1 0 + cond (r x) 1 0)
+    → count_by p xs ≡ count_by q xs + count_by r xs
 count_sum p q r [] each = refl
 count_sum p q r (x ∷ xs) each =
-    omega (arith, sum_by-cons (λ y. cond (p y) 1 0) x xs, sum_by-cons (λ y. cond (q y) 1 0) x xs, sum_by-cons (λ y. cond (r y) 1 0) x xs, each x, count_sum p q r xs each)
+    omega (
+      arith,
+      sum_by-cons (λ y. cond (p y) 1 0) x xs,
+      sum_by-cons (λ y. cond (q y) 1 0) x xs,
+      sum_by-cons (λ y. cond (r y) 1 0) x xs,
+      each x,
+      count_sum p q r xs each,
+    )
 
 -- where only a part in the middle passes the one test, and passes it as the other one, the part's count is that of the whole
 pub count_middle : {X : Type 0} (p q : X → Bool) (xs : List X) (from to : ℕ) → from ≤ to → to ≤ length xs →
@@ -31,7 +39,8 @@ pub count_middle : {X : Type 0} (p q : X → Bool) (xs : List X) (from to : ℕ)
 count_middle p q xs from to order inside before behind same =
     let first = sum_by-take-drop (λ x. cond (q x) 1 0) xs from in
     let second = sum_by-take-drop (λ x. cond (q x) 1 0) (drop from xs) (to - from) in
-    let lead = count_none q (take from xs) (λ k d lt. let within : k < from = omega (arith, length-take from xs) in rw (get_or-take from xs k d within) (before k d within)) in
+    let lead = count_none q (take from xs) (λ k d lt. let within : k < from = omega (arith, length-take from xs) in
+    rw (get_or-take from xs k d within) (before k d within)) in
     let tail = count_none q (drop (to - from) (drop from xs)) (λ k d lt.
     let long = length-drop (to - from) (drop from xs) in
     let long' = length-drop from xs in

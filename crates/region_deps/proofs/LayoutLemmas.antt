@@ -9,7 +9,7 @@ use Rattle.std.proofs.lemmas.Bool.{cases_eq, cases_lt, cases_Bool, eq-eqb, ne_eq
 use Rattle.std.proofs.lemmas.Grind.{get_or-set_at}
 use Rattle.region_deps.specs.declared.graph.Link.{Link}
 use Rattle.region_deps.specs.Links.{link, is_gone, is_to, is_between, holds, IsWithin}
-use Rattle.region_deps.specs.Queues.{due, is_held, offered, IsQueued, HasRoom, HasPlace, IsPlace, IsGraph}
+use Rattle.region_deps.specs.Queues.{due, is_waited_for, offered, IsQueued, HasRoom, HasPlace, IsPlace, IsGraph}
 use Rattle.region_deps.proofs.Counting.{count_same, count_middle}
 
 -- at first no source is gone
@@ -40,7 +40,8 @@ built links first left startable sources tasks capacity gone handed all_there no
       ends = subst (λ n. All (IsWithin n (length handed)) links) (sym sources_are) (subst (λ n. All (IsWithin sources n) links) (sym tasks_are) ends);
       places = omega (arith, places, sources_are);
       place = λ s lt. place s (omega (arith, lt, sources_are));
-      counted = λ task lt. counted task (omega (arith, lt, many)) ∙ counted_at_first sources task links ∙ ap (λ (l : List Bool). count_by (holds l task) links) (sym all_there);
+      counted = λ task lt. counted task (omega (arith, lt, many)) ∙ counted_at_first sources task links
+          ∙ ap (λ (l : List Bool). count_by (holds l task) links) (sym all_there);
       queued = subst (λ l. IsQueued left l startable) (ap (λ (n : ℕ). replicate n false) many ∙ sym none_handed) queued;
       room = room;
       numbered = omega (arith, few, tasks_are);
@@ -58,9 +59,12 @@ pub built_read : (links links' links'' : List Link) (first left left' startable 
     length first ≡ sources + 1 → ((source : ℕ) → source < sources → HasPlace links' first source) →
     length left ≡ tasks → ((task : ℕ) → task < tasks → get_or left task 1 ≡ count_by (is_to task) links'') →
     IsQueued left' (replicate (length left') false) startable → HasRoom left' startable capacity → IsGraph links first gone handed left startable capacity
-built_read links links' links'' first left left' startable sources tasks capacity gone handed first_of counted_of idle_of all_there none_handed few ends places place many counted queued room =
-    built links first left startable sources tasks capacity gone handed all_there none_handed few ends places (λ s lt. subst (λ l. HasPlace l first s) first_of (place s lt)) many
-    (λ task lt. counted task lt ∙ ap (λ (l : List Link). count_by (is_to task) l) counted_of) (subst (λ l. IsQueued l (replicate (length l) false) startable) idle_of queued)
+built_read links links' links'' first left left' startable sources tasks capacity gone handed first_of counted_of idle_of all_there none_handed few ends
+    places place many counted queued room =
+    built links first left startable sources tasks capacity gone handed all_there none_handed few ends places
+    (λ s lt. subst (λ l. HasPlace l first s) first_of (place s lt)) many
+    (λ task lt. counted task lt ∙ ap (λ (l : List Link). count_by (is_to task) l) counted_of)
+    (subst (λ l. IsQueued l (replicate (length l) false) startable) idle_of queued)
     (subst (λ l. HasRoom l startable capacity) idle_of room)
 
 -- from the two places, the place of a source
@@ -72,9 +76,12 @@ place_from_ends links first source sorted from to =
       order = order;
       inside = to.within;
       parts = λ task. count_middle (is_to task) (is_between source task) links (get_or first source 0) (get_or first (source + 1) 0) order to.within
-          (λ k d lt. and_left ((get_or links k d).source == source) ((get_or links k d).task == task) (ne_eqb (get_or links k d).source source (λ e. absurd (omega (arith, from.below k d lt, e)))))
-          (λ k d le lt. and_left ((get_or links k d).source == source) ((get_or links k d).task == task) (ne_eqb (get_or links k d).source source (λ e. absurd (omega (arith, to.above k d le lt, e)))))
-          (λ k d le lt. let same : ((get_or links k d).source == source) ≡ true = eq-eqb (get_or links k d).source source (omega (arith, from.above k d le (omega (arith, to.within)), to.below k d lt)) in rw same refl);
+          (λ k d lt. and_left ((get_or links k d).source == source) ((get_or links k d).task == task)
+          (ne_eqb (get_or links k d).source source (λ e. absurd (omega (arith, from.below k d lt, e)))))
+          (λ k d le lt. and_left ((get_or links k d).source == source) ((get_or links k d).task == task)
+          (ne_eqb (get_or links k d).source source (λ e. absurd (omega (arith, to.above k d le lt, e)))))
+          (λ k d le lt. let same : ((get_or links k d).source == source) ≡ true =
+          eq-eqb (get_or links k d).source source (omega (arith, from.above k d le (omega (arith, to.within)), to.below k d lt)) in rw same refl);
     }
 
 -- each task has the count of its links so far
@@ -82,7 +89,8 @@ pub record IsCounted (links : List Link) (i tasks : ℕ) (left : List ℕ) : Typ
   pub long : length left ≡ tasks
   pub counted : (task : ℕ) → task < tasks → get_or left task 1 ≡ count_by (is_to task) (take i links)
 
-pub counted_more : (links : List Link) (i tasks : ℕ) (left : List ℕ) (d : Link) (now : ℕ) → i < length links → (get_or links i d).task < tasks → IsCounted links i tasks left →
+pub counted_more : (links : List Link) (i tasks : ℕ) (left : List ℕ) (d : Link) (now : ℕ) → i < length links → (get_or links i d).task < tasks
+    → IsCounted links i tasks left →
     now ≡ get_or left (get_or links i d).task now → IsCounted links (i + 1) tasks (set left (get_or links i d).task (now + 1))
 counted_more links i tasks left d now within exists c is =
     let here : ℕ = (get_or links i d).task in
@@ -95,7 +103,15 @@ counted_more links i tasks left d now within exists c is =
           elim (cases_eq task here) [
             | inl same ↦
                 let set_here = get_or-set_at left here task (now + 1) 1 same inside in
-                omega (arith, set_here, more, c.counted task lt, ap (λ (t : ℕ). get_or left t 1) same, read, ap {B = ℕ} (λ (b : Bool). cond b 1 0) (eq-eqb here task (sym same)))
+                omega (
+                  arith,
+                  set_here,
+                  more,
+                  c.counted task lt,
+                  ap (λ (t : ℕ). get_or left t 1) same,
+                  read,
+                  ap {B = ℕ} (λ (b : Bool). cond b 1 0) (eq-eqb here task (sym same)),
+                )
             | inr other ↦
                 let kept = get_or-set_other left here task (now + 1) 1 other in
                 omega (arith, kept, more, c.counted task lt, ap {B = ℕ} (λ (b : Bool). cond b 1 0) (ne_eqb here task (λ e. other (sym e))))
@@ -103,7 +119,8 @@ counted_more links i tasks left d now within exists c is =
     }
 
 -- a count so far is no longer than the list so far
-pub counted_within : (links : List Link) (i tasks : ℕ) (left : List ℕ) (d : Link) (now : ℕ) → i < length links → (get_or links i d).task < tasks → IsCounted links i tasks left →
+pub counted_within : (links : List Link) (i tasks : ℕ) (left : List ℕ) (d : Link) (now : ℕ) → i < length links → (get_or links i d).task < tasks
+    → IsCounted links i tasks left →
     now ≡ get_or left (get_or links i d).task now → now ≤ i
 counted_within links i tasks left d now within exists c is =
     let here : ℕ = (get_or links i d).task in
@@ -115,13 +132,13 @@ pub record IsIdle (left : List ℕ) (i : ℕ) (startable : List ℕ) : Type 0 wh
   pub each : (task : ℕ) → task < i → count_by (λ x. x == task) startable ≡ due (get_or left task 1) false
   pub later : (task : ℕ) → i ≤ task → count_by (λ x. x == task) startable ≡ 0
   pub within : All (λ x. x < i) startable
-  pub many : length startable + count_by is_held (take i left) ≡ i
+  pub many : length startable + count_by is_waited_for (take i left) ≡ i
 
 count_offered : (task i left : ℕ) → count_by (λ x. x == task) (offered i left) ≡ cond (i == task) (due left false) 0
 count_offered task i zero = omega arith
 count_offered task i (suc left) = elim (cases_Bool (i == task)) [ inl is ↦ rw is refl | inr isnt ↦ rw isnt refl ]
 
-length_offered : (i left : ℕ) → length (offered i left) + cond (is_held left) 1 0 ≡ 1
+length_offered : (i left : ℕ) → length (offered i left) + cond (is_waited_for left) 1 0 ≡ 1
 length_offered i zero = refl
 length_offered i (suc left) = refl
 
@@ -138,16 +155,41 @@ idle_more left i startable startable' here within is idle e =
     ap (λ (n : ℕ). count_by (λ x. x == task) startable + n) (count_offered task i here) in
     record {
       each = λ task lt. elim (cases_eq task i) [
-        | inl same ↦ omega (arith, counts task, ap {B = ℕ} (λ (b : Bool). cond b (due here false) 0) (eq-eqb i task (sym same)), idle.later task (omega (arith, same)), ap (λ (n : ℕ). due n false) (read ∙ sym (ap (λ (t : ℕ). get_or left t 1) same)))
-        | inr other ↦ omega (arith, counts task, ap {B = ℕ} (λ (b : Bool). cond b (due here false) 0) (ne_eqb i task (λ f. other (sym f))), idle.each task (omega (arith, lt, other)))
+        | inl same ↦ omega (
+          arith,
+          counts task,
+          ap {B = ℕ} (λ (b : Bool). cond b (due here false) 0) (eq-eqb i task (sym same)),
+          idle.later task (omega (arith, same)),
+          ap (λ (n : ℕ). due n false) (read ∙ sym (ap (λ (t : ℕ). get_or left t 1) same)),
+        )
+        | inr other ↦ omega (
+          arith,
+          counts task,
+          ap {B = ℕ} (λ (b : Bool). cond b (due here false) 0) (ne_eqb i task (λ f. other (sym f))),
+          idle.each task (omega (arith, lt, other)),
+        )
       ];
-      later = λ task le. omega (arith, counts task, idle.later task (omega (arith, le)), ap {B = ℕ} (λ (b : Bool). cond b (due here false) 0) (ne_eqb i task (λ f. absurd (omega (arith, le, f)))));
+      later = λ task le. omega (
+        arith,
+        counts task,
+        idle.later task (omega (arith, le)),
+        ap {B = ℕ} (λ (b : Bool). cond b (due here false) 0) (ne_eqb i task (λ f. absurd (omega (arith, le, f)))),
+      );
       within = subst (All (λ x. x < i + 1)) (sym e) (All-append (λ x. x < i + 1) startable (offered i here)
           (All-weaker (λ x. x < i) (λ x. x < i + 1) (λ x lt. omega (arith, lt)) startable idle.within) (within_offered i here));
-      many = omega (arith, ap length e, length-append startable (offered i here), length_offered i here, idle.many, sum_by_more (λ x. cond (is_held x) 1 0) left i 1 within, ap {B = ℕ} (λ (n : ℕ). cond (is_held n) 1 0) read);
+      many = omega (
+        arith,
+        ap length e,
+        length-append startable (offered i here),
+        length_offered i here,
+        idle.many,
+        sum_by_more (λ x. cond (is_waited_for x) 1 0) left i 1 within,
+        ap {B = ℕ} (λ (n : ℕ). cond (is_waited_for n) 1 0) read,
+      );
     }
 
-pub idle_all : (left startable : List ℕ) (i : ℕ) → length left ≤ i → i ≤ length left → IsIdle left i startable → IsQueued left (replicate (length left) false) startable
+pub idle_all : (left startable : List ℕ) (i : ℕ) → length left ≤ i → i ≤ length left → IsIdle left i startable
+    → IsQueued left (replicate (length left) false) startable
 idle_all left startable i le ge idle = record {
   each = λ task lt. rw (get_or-replicate (length left) task false true lt) (idle.each task (omega (arith, lt, le)));
   started = λ task lt is. absurd (false≢true (sym (get_or-replicate (length left) task false true lt) ∙ is));
@@ -155,5 +197,6 @@ idle_all left startable i le ge idle = record {
   lengths = length-replicate (length left) false;
 }
 
-pub idle_room : (left startable : List ℕ) (i capacity : ℕ) → length left ≤ i → i ≤ length left → length left ≤ capacity → IsIdle left i startable → HasRoom left startable capacity
-idle_room left startable i capacity le ge room idle = omega (arith, idle.many, ap (λ (l : List ℕ). count_by is_held l) (take_all i left le))
+pub idle_room : (left startable : List ℕ) (i capacity : ℕ) → length left ≤ i → i ≤ length left → length left ≤ capacity → IsIdle left i startable
+    → HasRoom left startable capacity
+idle_room left startable i capacity le ge room idle = omega (arith, idle.many, ap (λ (l : List ℕ). count_by is_waited_for l) (take_all i left le))

@@ -73,7 +73,8 @@ since-replicate n at = elim (cases_lt at n) [
   | inr past ↦ get_or_past (replicate n untouched) at untouched (omega (arith, past, length-replicate n untouched))
 ]
 
-pub linked_none : (regions : List Region) (n : ℕ) (segments : List Since) (links : List Link) → segments ≡ replicate n untouched → links ≡ [] → IsLinked regions 0 segments links
+pub linked_none : (regions : List Region) (n : ℕ) (segments : List Since) (links : List Link) → segments ≡ replicate n untouched → links ≡ []
+    → IsLinked regions 0 segments links
 linked_none regions n segments links fresh none =
     let empty : (at : ℕ) → since_at segments at ≡ untouched = λ at. ap (λ (s : List Since). since_at s at) fresh ∙ since-replicate n at in
     record {
@@ -89,7 +90,8 @@ link_again l task links same here = subst (λ u. Contains links (link l.source u
 
 -- the region touches one more segment
 pub touched_more : (segments now : List Since) (from upto region task : ℕ) (writes : Bool) (links links' links'' : List Link) (old new : Since) →
-    IsTouched segments now from upto region task writes links links' → from ≤ upto → upto < length now → old ≡ get_or now upto old → new ≡ touched old region writes →
+    IsTouched segments now from upto region task writes links links' → from ≤ upto → upto < length now → old ≡ get_or now upto old
+    → new ≡ touched old region writes →
     links'' ≡ links' ++ map (λ s. link s task) (sources old writes) → IsTouched segments (set now upto new) from (upto + 1) region task writes links links''
 touched_more segments now from upto region task writes links links' links'' old new t order within is new_is e =
     let was : old ≡ since_at segments upto = get_or_read now upto old within is untouched ∙ t.outside upto (inr (omega arith)) in
@@ -97,7 +99,8 @@ touched_more segments now from upto region task writes links links' links'' old 
     record {
       long = length-set now upto new ∙ t.long;
       inside = λ at le lt. elim (cases_eq at upto) [
-        | inl same ↦ get_or-set_at now upto at new untouched same within ∙ new_is ∙ ap (λ (s : Since). touched s region writes) (was ∙ sym (ap (λ (n : ℕ). since_at segments n) same))
+        | inl same ↦ get_or-set_at now upto at new untouched same within ∙ new_is
+            ∙ ap (λ (s : Since). touched s region writes) (was ∙ sym (ap (λ (n : ℕ). since_at segments n) same))
         | inr other ↦ get_or-set_other now upto at new untouched other ∙ t.inside at le (omega (arith, lt, other))
       ];
       outside = λ at away. elim away [
@@ -106,14 +109,30 @@ touched_more segments now from upto region task writes links links' links'' old 
       ];
       kept = λ l here. subst (λ (x : List Link). Contains x l) (sym e) (Contains-append_left links' made_now l (t.kept l here));
       made = λ l asked. subst (λ (x : List Link). Contains x l) (sym e) (elim (cases_eq asked.at upto) [
-        | inl same ↦ Contains-append_right links' made_now l (link_again l task made_now asked.to_task (Contains-map (λ s. link s task) (sources old writes) l.source
+        | inl same ↦ Contains-append_right links' made_now l
+            (link_again l task made_now asked.to_task (Contains-map (λ s. link s task) (sources old writes) l.source
             (subst (λ (s : Since). Contains (sources s writes) l.source) (ap (λ (n : ℕ). since_at segments n) same ∙ sym was) asked.source)))
-        | inr other ↦ Contains-append_left links' made_now l (t.made l (record { at = asked.at; behind = asked.behind; before = omega (arith, asked.before, other); to_task = asked.to_task; source = asked.source }))
+        | inr other ↦ Contains-append_left links' made_now l
+            (t.made l (record {
+              at = asked.at;
+              behind = asked.behind;
+              before = omega (arith, asked.before, other);
+              to_task = asked.to_task;
+              source =
+                  asked.source;
+            }))
       ]);
       only = λ l here. elim (Contains-append_cases links' made_now l (subst (λ (x : List Link). Contains x l) e here)) [
         | inl before ↦ elim (t.only l before) [
           | inl first ↦ inl first
-          | inr asked ↦ inr (record { at = asked.at; behind = asked.behind; before = omega (arith, asked.before); to_task = asked.to_task; source = asked.source })
+          | inr asked ↦ inr (record {
+            at = asked.at;
+            behind = asked.behind;
+            before = omega (arith, asked.before);
+            to_task = asked.to_task;
+            source =
+                asked.source;
+          })
         ]
         | inr now_made ↦
             let m = Contains-from_map (λ s. link s task) (sources old writes) l now_made in
@@ -122,13 +141,15 @@ touched_more segments now from upto region task writes links links' links'' old 
               behind = order;
               before = omega arith;
               to_task = sym (ap (λ (x : Link). x.task) m.same);
-              source = subst (λ (s : Since). Contains (sources s writes) l.source) was (subst (λ (k : ℕ). Contains (sources old writes) k) (ap (λ (x : Link). x.source) m.same) m.there);
+              source = subst (λ (s : Since). Contains (sources s writes) l.source) was
+                  (subst (λ (k : ℕ). Contains (sources old writes) k) (ap (λ (x : Link). x.source) m.same) m.there);
             })
       ];
     }
 
 -- where the loop went past the end, or never began
-pub touched_upto : (segments segments' : List Since) (from upto to region task : ℕ) (writes : Bool) (links links' : List Link) → to ≤ upto → (to < upto → upto ≡ from) →
+pub touched_upto : (segments segments' : List Since) (from upto to region task : ℕ) (writes : Bool) (links links' : List Link) → to ≤ upto
+    → (to < upto → upto ≡ from) →
     IsTouched segments segments' from upto region task writes links links' → IsTouched segments segments' from to region task writes links links'
 touched_upto segments segments' from upto to region task writes links links' past none t = elim (cases_eq to upto) [
   | inl same ↦ subst (λ (n : ℕ). IsTouched segments segments' from n region task writes links links') (sym same) t
@@ -137,7 +158,11 @@ touched_upto segments segments' from upto to region task writes links links' pas
       record {
         long = t.long;
         inside = λ at le lt. absurd (omega (arith, le, lt, past, start));
-        outside = λ at away. elim (cases_lt at from) [ inl before ↦ t.outside at (inl before) | inr behind ↦ t.outside at (inr (omega (arith, behind, start))) ];
+        outside = λ at away. elim (cases_lt at from) [
+          | inl before ↦ t.outside at (inl before)
+          | inr behind ↦ t.outside at
+              (inr (omega (arith, behind, start)))
+        ];
         kept = t.kept;
         made = λ l asked. absurd (omega (arith, asked.behind, asked.before, past, start));
         only = λ l here. elim (t.only l here) [ inl first ↦ inl first | inr asked ↦ absurd (omega (arith, asked.behind, asked.before, start)) ];
@@ -180,14 +205,17 @@ recent_before regions at k n now other = record {
 }
 
 -- the segment that the last region touched
-recent_touched : (regions : List Region) (at k n : ℕ) (since : Since) → (IsRecent regions at k n → Knows since k (region_at regions k).writes) → Lies (region_at regions n) at →
+recent_touched : (regions : List Region) (at k n : ℕ) (since : Since) → (IsRecent regions at k n → Knows since k (region_at regions k).writes)
+    → Lies (region_at regions n) at →
     IsRecent regions at k (n + 1) → Knows (touched since n (region_at regions n).writes) k (region_at regions k).writes
 recent_touched regions at k n since h lies now = elim (cases_eq k n) [
-  | inl same ↦ subst (λ (i : ℕ). Knows (touched since n (region_at regions n).writes) i (region_at regions i).writes) (sym same) (knows_itself since n (region_at regions n).writes)
+  | inl same ↦ subst (λ (i : ℕ). Knows (touched since n (region_at regions n).writes) i (region_at regions i).writes) (sym same)
+      (knows_itself since n (region_at regions n).writes)
   | inr other ↦
       let before = recent_before regions at k n now other in
       let reads : (region_at regions n).writes ≡ false = now.unwritten n before.earlier (omega arith) lies in
-      subst (λ (b : Bool). Knows (touched since n b) k (region_at regions k).writes) (sym reads) (knows_before since n k (region_at regions k).writes (h before))
+      subst (λ (b : Bool). Knows (touched since n b) k (region_at regions k).writes) (sym reads)
+      (knows_before since n k (region_at regions k).writes (h before))
 ]
 
 -- whom the region has to wait for, the segment names
@@ -200,7 +228,8 @@ waits_named regions at k n since knows waits = elim (cases_Bool (region_at regio
 ]
 
 -- one more region is linked
-pub linked_more : (regions : List Region) (n : ℕ) (segments segments' : List Since) (links links' : List Link) → n < length regions → IsLinked regions n segments links →
+pub linked_more : (regions : List Region) (n : ℕ) (segments segments' : List Since) (links links' : List Link) → n < length regions
+    → IsLinked regions n segments links →
     IsTouched segments segments' (region_at regions n).from (region_at regions n).to n (region_at regions n).task (region_at regions n).writes links links' →
     IsLinked regions (n + 1) segments' links'
 linked_more regions n segments segments' links links' within h t =
@@ -226,24 +255,50 @@ linked_more regions n segments segments' links links' within h t =
         | inr made ↦ elim (cases_Bool r.writes) [
           | inl writes ↦
               let seen = h.named made.at k (subst (λ (b : Bool). Contains (sources (since_at segments made.at) b) k) writes made.source) in
-              record { region = n; of_task = sym made.to_task; clash = record { earlier = seen.before; within = within; meets = meets_at (region_at regions k) r made.at seen.covers (made.behind, made.before); written = inr writes } }
+              record {
+                region = n;
+                of_task = sym made.to_task;
+                clash =
+                    record {
+                      earlier = seen.before;
+                      within = within;
+                      meets =
+                          meets_at (region_at regions k) r made.at seen.covers (made.behind, made.before);
+                      written = inr writes;
+                    };
+              }
           | inr reads ↦
               let seen = h.writer made.at k (subst (λ (b : Bool). Contains (sources (since_at segments made.at) b) k) reads made.source) in
-              record { region = n; of_task = sym made.to_task; clash = record { earlier = seen.before; within = within; meets = meets_at (region_at regions k) r made.at seen.covers (made.behind, made.before); written = inl seen.mode } }
+              record {
+                region = n;
+                of_task = sym made.to_task;
+                clash =
+                    record {
+                      earlier = seen.before;
+                      within = within;
+                      meets =
+                          meets_at (region_at regions k) r made.at seen.covers (made.behind, made.before);
+                      written = inl seen.mode;
+                    };
+              }
         ]
       ];
       writer = λ at k here. elim (lies_cases r at) [
-        | inl lies ↦ elim (touched_writer (since_at segments at) n r.writes k (subst (λ (s : Since). Contains (sources s false) k) (t.inside at lies.0 lies.1) here)) [
-          | inl before ↦ seen_again regions n at k true (h.writer at k before)
-          | inr now ↦ subst (λ (i : ℕ). Seen regions (n + 1) at i true) now.0 (record { before = omega arith; covers = lies; mode = now.1 })
-        ]
+        | inl lies ↦ elim (touched_writer (since_at segments at) n r.writes k
+            (subst (λ (s : Since). Contains (sources s false) k) (t.inside at lies.0 lies.1) here)) [
+              | inl before ↦ seen_again regions n at k true (h.writer at k before)
+              | inr now ↦ subst (λ (i : ℕ). Seen regions (n + 1) at i true) now.0 (record { before = omega arith; covers = lies; mode = now.1 })
+            ]
         | inr away ↦ seen_again regions n at k true (h.writer at k (subst (λ (s : Since). Contains (sources s false) k) (t.outside at away) here))
       ];
       named = λ at k here. elim (lies_cases r at) [
-        | inl lies ↦ elim (touched_named (since_at segments at) n r.writes k (subst (λ (s : Since). Contains (sources s true) k) (t.inside at lies.0 lies.1) here)) [
-          | inl before ↦ seen_again regions n at k (region_at regions k).writes (h.named at k before)
-          | inr now ↦ subst (λ (i : ℕ). Seen regions (n + 1) at i (region_at regions i).writes) now (record { before = omega arith; covers = lies; mode = refl })
-        ]
-        | inr away ↦ seen_again regions n at k (region_at regions k).writes (h.named at k (subst (λ (s : Since). Contains (sources s true) k) (t.outside at away) here))
+        | inl lies ↦ elim (touched_named (since_at segments at) n r.writes k
+            (subst (λ (s : Since). Contains (sources s true) k) (t.inside at lies.0 lies.1) here)) [
+              | inl before ↦ seen_again regions n at k (region_at regions k).writes (h.named at k before)
+              | inr now ↦ subst (λ (i : ℕ). Seen regions (n + 1) at i (region_at regions i).writes) now
+                  (record { before = omega arith; covers = lies; mode = refl })
+            ]
+        | inr away ↦ seen_again regions n at k (region_at regions k).writes
+            (h.named at k (subst (λ (s : Since). Contains (sources s true) k) (t.outside at away) here))
       ];
     }

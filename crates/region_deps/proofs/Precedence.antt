@@ -9,7 +9,7 @@ use Rattle.rt_base.specs.declared.data.Access.{Access}
 use Rattle.rt_base.specs.declared.data.TaskDef.{TaskDef}
 use Rattle.rt_base.specs.declared.data.Program.{Program}
 use Rattle.rt_base.specs.Spans.{is_written}
-use Rattle.rt_base.specs.Precedes.{SharesRegions, Precedes}
+use Rattle.rt_base.specs.Precedes.{HoldsBack, SharesRegions, Precedes}
 use Rattle.rt_base.specs.WellFormed.{InOrder}
 use Rattle.region_deps.specs.declared.segments.Region.{Region}
 use Rattle.region_deps.specs.Clashes.{region_at, task_at, Meets, Clash}
@@ -37,8 +37,10 @@ after tasks order u task le lt = elim (cases_eq u task) [
   | inr other ↦ elim (slice_get_cases tasks task).1 [
     | inl found ↦
         let o = order u task found.0 (omega (arith, le, other)) lt in
-        let r = rank_of tasks u (get_or tasks u found.0) (omega (arith, le, lt)) (get_or_default tasks u (get_or tasks u found.0) found.0 (omega (arith, le, lt))) in
-        let e = epoch_of tasks u (get_or tasks u found.0) (omega (arith, le, lt)) (get_or_default tasks u (get_or tasks u found.0) found.0 (omega (arith, le, lt))) in
+        let r = rank_of tasks u (get_or tasks u found.0) (omega (arith, le, lt))
+        (get_or_default tasks u (get_or tasks u found.0) found.0 (omega (arith, le, lt))) in
+        let e = epoch_of tasks u (get_or tasks u found.0) (omega (arith, le, lt))
+        (get_or_default tasks u (get_or tasks u found.0) found.0 (omega (arith, le, lt))) in
         let r' = rank_of tasks task (get_or tasks task found.0) lt (get_or_default tasks task (get_or tasks task found.0) found.0 lt) in
         let e' = epoch_of tasks task (get_or tasks task found.0) lt (get_or_default tasks task (get_or tasks task found.0) found.0 lt) in
         record { rank = omega (arith, o.0, r, r'); epoch = λ same. omega (arith, o.1 (sym r ∙ same ∙ r'), e, e') }
@@ -50,7 +52,8 @@ small_def : (tasks : List TaskDef) → All IsSmallTask tasks → (task : ℕ) (d
 small_def tasks small task def is = subst IsSmallTask (get_or_from_slice_get tasks task def def is) (small task def (slice_get_within tasks task def is))
 
 -- a clash on the line is a task that precedes by its regions
-pub precedes_from_clash : (program : Program) → IsOrderly program.tasks.items → All IsSmallTask program.tasks.items → (k j : ℕ) → Clash (regions_from 0 program.tasks.items) k j →
+pub precedes_from_clash : (program : Program) → IsOrderly program.tasks.items → All IsSmallTask program.tasks.items → (k j : ℕ)
+    → Clash (regions_from 0 program.tasks.items) k j →
     Precedes program (task_at (regions_from 0 program.tasks.items) k) (task_at (regions_from 0 program.tasks.items) j)
 precedes_from_clash program orderly small k j clash =
     let tasks : List TaskDef = program.tasks.items in
@@ -59,14 +62,16 @@ precedes_from_clash program orderly small k j clash =
     let one_task : task_at (regions_from 0 tasks) k ≡ one.number = omega (arith, ap (λ (r : Region). r.task) one.is_region) in
     let other_task : task_at (regions_from 0 tasks) j ≡ other.number = omega (arith, ap (λ (r : Region). r.task) other.is_region) in
     let rises = tasks_rise tasks k j (omega (arith, clash.earlier)) clash.within in
-    let later : task_at (regions_from 0 tasks) k < task_at (regions_from 0 tasks) j = elim (cases_eq (task_at (regions_from 0 tasks) k) (task_at (regions_from 0 tasks) j)) [
+    let later : task_at (regions_from 0 tasks) k < task_at (regions_from 0 tasks) j =
+    elim (cases_eq (task_at (regions_from 0 tasks) k) (task_at (regions_from 0 tasks) j)) [
       | inl same ↦ absurd (apart tasks 0 k j small orderly.apart clash.earlier clash.within same clash.meets)
       | inr differ ↦ omega (arith, rises, differ)
     ] in
     let m = subst (λ (r : Region). Meets (region_of (0 + one.number) one.def.rank one.access) r) other.is_region
     (subst (λ (r : Region). Meets r (region_at (regions_from 0 tasks) j)) one.is_region clash.meets) in
     let small_one = subst IsSmall one.is_access ((small_def tasks small one.number one.def one.is_task).accesses one.index one.access one.within) in
-    let small_other = subst IsSmall other.is_access ((small_def tasks small other.number other.def other.is_task).accesses other.index other.access other.within) in
+    let small_other = subst IsSmall other.is_access ((small_def tasks small other.number other.def other.is_task).accesses other.index other.access
+    other.within) in
     let o = overlap_from_meets (0 + one.number) (0 + other.number) one.def.rank other.def.rank one.access other.access small_one small_other m in
     let written : IsTrue (is_written one.access.mode || is_written other.access.mode) = elim clash.written [
       | inl writes ↦ or_left (is_written one.access.mode) (is_written other.access.mode) (sym (ap (λ (r : Region). r.writes) one.is_region) ∙ writes)
@@ -78,7 +83,16 @@ precedes_from_clash program orderly small k j clash =
       is_earlier = subst (λ (t : ℕ). slice_get tasks t ≡ Some one.def) (sym one_task) one.is_task;
       is_later = subst (λ (t : ℕ). slice_get tasks t ≡ Some other.def) (sym other_task) other.is_task;
       order = later;
-      before = (o.one_rank, inl (one.index, one.access, one.within, one.is_access, (other.index, other.access, other.within, other.is_access, (o.overlap, written))));
+      before = (
+        o.one_rank,
+        inl (
+          one.index,
+          one.access,
+          one.within,
+          one.is_access,
+          (other.index, other.access, other.within, other.is_access, (o.overlap, written)),
+        ),
+      );
     }
 
 -- a task that precedes by its regions is a clash on the line
@@ -89,11 +103,12 @@ pub record IsClash (regions : List Region) (u task : ℕ) : Type 0 where
   pub of_other : task_at regions other ≡ task
   pub clash : Clash regions one other
 
-pub clash_from_precedes : (tasks : List TaskDef) (u task : ℕ) (earlier later : TaskDef) → slice_get tasks u ≡ Some earlier → slice_get tasks task ≡ Some later → u < task →
+pub clash_from_precedes : (tasks : List TaskDef) (u task : ℕ) (earlier later : TaskDef) → slice_get tasks u ≡ Some earlier
+    → slice_get tasks task ≡ Some later → u < task →
     earlier.rank ≡ later.rank → SharesRegions earlier later → IsClash (regions_from 0 tasks) u task
 clash_from_precedes tasks u task earlier later is_earlier is_later order ranks shares =
     let one : Access = shares.1 in
-    let inner = shares.4 in
+    let inner : HoldsBack one later = shares.4 in
     let other : Access = inner.1 in
     let conflict = inner.4 in
     let k = among tasks 0 u shares.0 earlier one is_earlier shares.2 shares.3 in
@@ -114,7 +129,8 @@ clash_from_precedes tasks u task earlier later is_earlier is_later order ranks s
       clash = record {
         earlier = before;
         within = j.within;
-        meets = subst (λ (r : Region). Meets r (region_at (regions_from 0 tasks) j.at)) (sym k.is) (subst (λ (r : Region). Meets (region_of (0 + u) earlier.rank one) r) (sym j.is) m');
+        meets = subst (λ (r : Region). Meets r (region_at (regions_from 0 tasks) j.at)) (sym k.is)
+            (subst (λ (r : Region). Meets (region_of (0 + u) earlier.rank one) r) (sym j.is) m');
         written = elim (or_cases (is_written one.mode) (is_written other.mode) conflict.1) [
           | inl writes ↦ inl (ap (λ (r : Region). r.writes) k.is ∙ writes)
           | inr writes ↦ inr (ap (λ (r : Region). r.writes) j.is ∙ writes)

@@ -59,10 +59,13 @@ pub record IsTaken (links : List Link) (first : List ℕ) (gone handed : List Bo
 pub after_next : (links : List Link) (first : List ℕ) (gone handed : List Bool) (left startable rest : List ℕ) (capacity task : ℕ) →
     IsGraph links first gone handed left startable capacity → startable ≡ rest ++ task ∷ [] → IsTaken links first gone handed left rest capacity task
 after_next links first gone handed left startable rest capacity task g e =
-    let within : task < length left = All-contains (λ x. x < length left) startable task g.queued.within (subst (λ l. Contains l task) (sym e) (Contains-push rest task)) in
-    let counts : (u : ℕ) → count_by (λ x. x == u) startable ≡ count_by (λ x. x == u) rest + cond (task == u) 1 0 = λ u. ap (λ (l : List ℕ). count_by (λ x. x == u) l) e ∙ sum_by_push (λ x. cond (x == u) 1 0) rest task in
+    let within : task < length left = All-contains (λ x. x < length left) startable task g.queued.within
+    (subst (λ l. Contains l task) (sym e) (Contains-push rest task)) in
+    let counts : (u : ℕ) → count_by (λ x. x == u) startable ≡ count_by (λ x. x == u) rest + cond (task == u) 1 0 =
+    λ u. ap (λ (l : List ℕ). count_by (λ x. x == u) l) e ∙ sum_by_push (λ x. cond (x == u) 1 0) rest task in
     let one = ap {B = ℕ} (λ (b : Bool). cond b 1 0) (eq-eqb task task refl) in
-    let now = due_one (get_or left task 1) (get_or handed task true) (count_by (λ x. x == task) rest) (omega (arith, counts task, one, g.queued.each task within)) in
+    let now = due_one (get_or left task 1) (get_or handed task true) (count_by (λ x. x == task) rest)
+    (omega (arith, counts task, one, g.queued.each task within)) in
     let long = length-set handed task true in
     let many = ap length e ∙ length_push rest task in
     let handed_in : task < length handed = omega (arith, g.queued.lengths) in
@@ -79,7 +82,8 @@ after_next links first gone handed left startable rest capacity task g e =
         queued = record {
           each = λ u lt. elim (cases_eq u task) [
             | inl same ↦ rw same (now.0 ∙ sym (due_handed _ _ now.1 (get_or-set_same handed task true true handed_in)))
-            | inr other ↦ rw (get_or-set_other handed task u true true other) (omega (arith, counts u, g.queued.each u lt, ap {B = ℕ} (λ (b : Bool). cond b 1 0) (ne_eqb task u (λ e'. other (sym e')))))
+            | inr other ↦ rw (get_or-set_other handed task u true true other)
+                (omega (arith, counts u, g.queued.each u lt, ap {B = ℕ} (λ (b : Bool). cond b 1 0) (ne_eqb task u (λ e'. other (sym e')))))
           ];
           started = λ u lt is. elim (cases_eq u task) [
             | inl same ↦ ap (λ v. get_or left v 1) same ∙ now.1
@@ -95,7 +99,8 @@ after_next links first gone handed left startable rest capacity task g e =
 
 -- where the list is empty, no task is open
 pub none_open : (links : List Link) (first : List ℕ) (gone handed : List Bool) (left startable : List ℕ) (capacity : ℕ) →
-    IsGraph links first gone handed left startable capacity → length startable ≡ 0 → (task : ℕ) → ¬ IsOpen (record { links = links; gone = gone; handed = handed }) task
+    IsGraph links first gone handed left startable capacity → length startable ≡ 0 → (task : ℕ)
+    → ¬ IsOpen (record { links = links; gone = gone; handed = handed }) task
 none_open links first gone handed left startable capacity g empty task ready =
     let there = slice_get_within handed task false ready.waits in
     let within : task < length left = omega (arith, there, g.queued.lengths) in
@@ -112,7 +117,8 @@ last_split x (y ∷ ys) =
 
 -- where no task is open, the list is empty
 pub empty_if_none : (links : List Link) (first : List ℕ) (gone handed : List Bool) (left startable : List ℕ) (capacity : ℕ) →
-    IsGraph links first gone handed left startable capacity → ((task : ℕ) → ¬ IsOpen (record { links = links; gone = gone; handed = handed }) task) → length startable ≡ 0
+    IsGraph links first gone handed left startable capacity → ((task : ℕ) → ¬ IsOpen (record { links = links; gone = gone; handed = handed }) task)
+    → length startable ≡ 0
 empty_if_none links first gone handed left [] capacity g none = refl
 empty_if_none links first gone handed left (task ∷ startable) capacity g none =
     let split = last_split task startable in
@@ -163,7 +169,8 @@ enough_read links links' first gone handed left startable capacity source from t
 -- the source is gone, and its links are taken off
 pub after_let_go : (links : List Link) (first : List ℕ) (gone handed : List Bool) (left startable left' startable' : List ℕ) (capacity capacity' source : ℕ) →
     IsGraph links first gone handed left startable capacity → source < length gone → is_gone gone source ≡ false → length left' ≡ length left →
-    ((task : ℕ) → task < length left → get_or left' task 1 + count_by (is_to task) (slice_range links (get_or first source 0) (get_or first (source + 1) 0)) ≡ get_or left task 1) →
+    ((task : ℕ) → task < length left → get_or left' task 1 + count_by (is_to task)
+    (slice_range links (get_or first source 0) (get_or first (source + 1) 0)) ≡ get_or left task 1) →
     ((all : List Bool) → IsQueued left all startable → IsQueued left' all startable') → HasRoom left' startable' capacity' →
     IsGraph links first (set gone source true) handed left' startable' capacity'
 after_let_go links first gone handed left startable left' startable' capacity capacity' source g within there same taken queued room =
@@ -172,19 +179,27 @@ after_let_go links first gone handed left startable left' startable' capacity ca
       ends = subst (λ n. All (IsWithin n (length handed)) links) (sym long) g.ends;
       places = omega (arith, g.places, long);
       place = λ s lt. g.place s (omega (arith, lt, long));
-      counted = λ task lt. omega (arith, taken task (omega (arith, lt, same)), (g.place source within).parts task, g.counted task (omega (arith, lt, same)), held_by_source links gone source task within there);
+      counted = λ task lt. omega (
+        arith,
+        taken task (omega (arith, lt, same)),
+        (g.place source within).parts task,
+        g.counted task (omega (arith, lt, same)),
+        held_by_source links gone source task within there,
+      );
       queued = queued handed g.queued;
       room = room;
       numbered = g.numbered;
     }
 
-pub after_read : (links links' : List Link) (first : List ℕ) (gone handed : List Bool) (left startable left' startable' : List ℕ) (capacity capacity' source from to : ℕ) →
+pub after_read : (links links' : List Link) (first : List ℕ) (gone handed : List Bool) (left startable left' startable' : List ℕ)
+    (capacity capacity' source from to : ℕ) →
     IsGraph links first gone handed left startable capacity → source < length gone → is_gone gone source ≡ false → length left' ≡ length left → links' ≡ links →
     from ≡ get_or first source from → to ≡ get_or first (source + 1) to →
     ((task : ℕ) → task < length left → get_or left' task 1 + count_by (is_to task) (slice_range links' from to) ≡ get_or left task 1) →
     ((all : List Bool) → IsQueued left all startable → IsQueued left' all startable') → HasRoom left' startable' capacity' →
     IsGraph links first (set gone source true) handed left' startable' capacity'
-after_read links links' first gone handed left startable left' startable' capacity capacity' source from to g within there many same from_is to_is taken queued room =
+after_read links links' first gone handed left startable left' startable' capacity capacity' source from to g within there many same from_is to_is taken
+    queued room =
     let start : from ≡ get_or first source 0 = get_or_read first source from (omega (arith, g.places, within)) from_is 0 in
     let stop : to ≡ get_or first (source + 1) 0 = get_or_read first (source + 1) to (omega (arith, g.places, within)) to_is 0 in
     after_let_go links first gone handed left startable left' startable' capacity capacity' source g within there many
@@ -202,7 +217,8 @@ down_all links i total left past down task lt =
     omega (arith, down.taken task (omega (arith, lt, down.long)), ap (λ (l : List Link). count_by (is_to task) l) (drop_all i links past))
 
 pub down_more : (links : List Link) (i : ℕ) (d : Link) (total left left' : List ℕ) → i < length links → (get_or links i d).task < length left →
-    IsCountedDown links i total left → left' ≡ set left (get_or links i d).task (get_or left (get_or links i d).task 1 - 1) → IsCountedDown links (i + 1) total left'
+    IsCountedDown links i total left → left' ≡ set left (get_or links i d).task (get_or left (get_or links i d).task 1 - 1)
+    → IsCountedDown links (i + 1) total left'
 down_more links i d total left left' within exists down e =
     let here : ℕ = (get_or links i d).task in
     let many : length left' ≡ length left = ap length e ∙ length-set left here (get_or left here 1 - 1) in
@@ -227,7 +243,8 @@ down_more links i d total left left' within exists down e =
 
 -- nothing is left of the task exactly where it is let in
 pub let_in_read : (links : List Link) (first : List ℕ) (gone handed : List Bool) (left startable : List ℕ) (capacity task now : ℕ) →
-    IsGraph links first gone handed left startable capacity → task < length handed → now ≡ get_or left task now → IsTrue (now == 0) ↔ IsLetIn links (is_gone gone) task
+    IsGraph links first gone handed left startable capacity → task < length handed → now ≡ get_or left task now
+    → IsTrue (now == 0) ↔ IsLetIn links (is_gone gone) task
 let_in_read links first gone handed left startable capacity task now g known is =
     let within : task < length left = omega (arith, known, g.queued.lengths) in
     let read : now ≡ count_by (holds gone task) links = get_or_read left task now within is 1 ∙ g.counted task within in

@@ -20,13 +20,20 @@ meets_from_overlap t u rank one other o =
     let cell = o.1.0 in
     let here = o.1.1 in
     let there = o.1.2 in
-    record { one_first = omega (arith, here.0, here.1); other_first = omega (arith, there.0, there.1); one_reaches = omega (arith, same, there.0, here.1); other_reaches = omega (arith, same, here.0, there.1) }
+    record {
+      one_first = omega (arith, here.0, here.1);
+      other_first = omega (arith, there.0, there.1);
+      one_reaches =
+          omega (arith, same, there.0, here.1);
+      other_reaches = omega (arith, same, here.0, there.1);
+    }
 
 pub record IsOverlap (rank other_rank : ℕ) (one other : Access) : Type 0 where
   pub one_rank : rank ≡ other_rank
   pub overlap : Overlaps one.span other.span
 
-pub overlap_from_meets : (t u rank other_rank : ℕ) (one other : Access) → IsSmall one → IsSmall other → Meets (region_of t rank one) (region_of u other_rank other) → IsOverlap rank other_rank one other
+pub overlap_from_meets : (t u rank other_rank : ℕ) (one other : Access) → IsSmall one → IsSmall other
+    → Meets (region_of t rank one) (region_of u other_rank other) → IsOverlap rank other_rank one other
 overlap_from_meets t u rank other_rank one other small_one small_other m =
     let line : rank * 65536 + one.span.array ≡ other_rank * 65536 + other.span.array =
     omega (arith, m.one_first, m.other_first, m.one_reaches, m.other_reaches, small_one.from, small_one.to, small_other.from, small_other.to) in
@@ -44,19 +51,27 @@ overlap_from_meets t u rank other_rank one other small_one small_other m =
     }
 
 -- where the regions of the first task stand, and those of the others
-pub all_long : (def : TaskDef) (defs : List TaskDef) (start : ℕ) → length (regions_from start (def ∷ defs)) ≡ length def.accesses.items + length (regions_from (start + 1) defs)
-all_long def defs start = omega (arith, length-append (regions_of start def) (regions_from (start + 1) defs), length-map def.accesses.items (region_of start def.rank))
+pub all_long : (def : TaskDef) (defs : List TaskDef) (start : ℕ)
+    → length (regions_from start (def ∷ defs)) ≡ length def.accesses.items + length (regions_from (start + 1) defs)
+all_long def defs start = omega (
+  arith,
+  length-append (regions_of start def) (regions_from (start + 1) defs),
+  length-map def.accesses.items (region_of start def.rank),
+)
 
-first_region : (def : TaskDef) (defs : List TaskDef) (start k : ℕ) (access : Access) → k < length def.accesses.items → get_or def.accesses.items k access ≡ access →
+first_region : (def : TaskDef) (defs : List TaskDef) (start k : ℕ) (access : Access) → k < length def.accesses.items
+    → get_or def.accesses.items k access ≡ access →
     region_at (regions_from start (def ∷ defs)) k ≡ region_of start def.rank access
 first_region def defs start k access lt is =
-    get_or_append_left (regions_of start def) (regions_from (start + 1) defs) nothing k (omega (arith, lt, length-map def.accesses.items (region_of start def.rank))) ∙
+    get_or_append_left (regions_of start def) (regions_from (start + 1) defs) nothing k
+    (omega (arith, lt, length-map def.accesses.items (region_of start def.rank))) ∙
     get_or-map (region_of start def.rank) def.accesses.items k access nothing lt ∙ ap (region_of start def.rank) is
 
 other_region : (def : TaskDef) (defs : List TaskDef) (start k : ℕ) → length def.accesses.items ≤ k →
     region_at (regions_from start (def ∷ defs)) k ≡ region_at (regions_from (start + 1) defs) (k - length def.accesses.items)
 other_region def defs start k past =
-    get_or-append_right (regions_of start def) (regions_from (start + 1) defs) (length def.accesses.items) k nothing (length-map def.accesses.items (region_of start def.rank)) past
+    get_or-append_right (regions_of start def) (regions_from (start + 1) defs) (length def.accesses.items) k nothing
+    (length-map def.accesses.items (region_of start def.rank)) past
 
 -- the access and the task behind a region
 pub record IsAccess (tasks : List TaskDef) (start : ℕ) (region : Region) : Type 0 where
@@ -103,7 +118,8 @@ pub record IsAmong (regions : List Region) (region : Region) : Type 0 where
   pub within : at < length regions
   pub is : region_at regions at ≡ region
 
-pub among : (tasks : List TaskDef) (start number index : ℕ) (def : TaskDef) (access : Access) → slice_get tasks number ≡ Some def → index < length def.accesses.items →
+pub among : (tasks : List TaskDef) (start number index : ℕ) (def : TaskDef) (access : Access) → slice_get tasks number ≡ Some def
+    → index < length def.accesses.items →
     get_or def.accesses.items index access ≡ access → IsAmong (regions_from start tasks) (region_of (start + number) def.rank access)
 among [] start number index def access is_task within is_access = absurd (none-some def is_task)
 among (first ∷ defs) start zero index def access is_task within is_access =
@@ -113,7 +129,8 @@ among (first ∷ defs) start zero index def access is_task within is_access =
     record {
       at = index;
       within = omega (arith, here, all_long first defs start);
-      is = first_region first defs start index access here access_is ∙ ap (λ (d : TaskDef). region_of start d.rank access) same ∙ ap (λ (n : ℕ). region_of n def.rank access) (sym (add-zero start));
+      is = first_region first defs start index access here access_is ∙ ap (λ (d : TaskDef). region_of start d.rank access) same
+          ∙ ap (λ (n : ℕ). region_of n def.rank access) (sym (add-zero start));
     }
 among (first ∷ defs) start (suc number) index def access is_task within is_access =
     let a = among defs (start + 1) number index def access is_task within is_access in
@@ -123,7 +140,8 @@ among (first ∷ defs) start (suc number) index def access is_task within is_acc
     record {
       at = many + a.at;
       within = omega (arith, a.within, all_long first defs start);
-      is = other_region first defs start (many + a.at) (omega arith) ∙ ap (λ (i : ℕ). region_at (regions_from (start + 1) defs) i) back ∙ a.is ∙ ap (λ (n : ℕ). region_of n def.rank access) sum;
+      is = other_region first defs start (many + a.at) (omega arith) ∙ ap (λ (i : ℕ). region_at (regions_from (start + 1) defs) i) back ∙ a.is
+          ∙ ap (λ (n : ℕ). region_of n def.rank access) sum;
     }
 
 -- a region's task is none before the first one
@@ -148,7 +166,8 @@ placed (def ∷ defs) start (suc task) k le lt =
     ]
 
 -- the regions stand in the order of their tasks
-pub tasks_rise : (tasks : List TaskDef) (k j : ℕ) → k ≤ j → j < length (regions_from 0 tasks) → task_at (regions_from 0 tasks) k ≤ task_at (regions_from 0 tasks) j
+pub tasks_rise : (tasks : List TaskDef) (k j : ℕ) → k ≤ j → j < length (regions_from 0 tasks)
+    → task_at (regions_from 0 tasks) k ≤ task_at (regions_from 0 tasks) j
 tasks_rise tasks k j le lt =
     let b = behind tasks 0 k (omega (arith, le, lt)) in
     let task_is = ap (λ (r : Region). r.task) b.is_region in
@@ -158,7 +177,8 @@ tasks_rise tasks k j le lt =
 
 -- the regions of one task do not meet
 pub apart : (tasks : List TaskDef) (start k j : ℕ) → All IsSmallTask tasks → All IsApart tasks → k < j → j < length (regions_from start tasks) →
-    task_at (regions_from start tasks) k ≡ task_at (regions_from start tasks) j → ¬ Meets (region_at (regions_from start tasks) k) (region_at (regions_from start tasks) j)
+    task_at (regions_from start tasks) k ≡ task_at (regions_from start tasks) j
+    → ¬ Meets (region_at (regions_from start tasks) k) (region_at (regions_from start tasks) j)
 apart [] start k j small alone order lt same m = absurd (omega (arith, lt))
 apart (def ∷ defs) start k j small alone order lt same m = elim (slice_get_cases def.accesses.items k).1 [
   | inl one ↦
@@ -173,7 +193,8 @@ apart (def ∷ defs) start k j small alone order lt same m = elim (slice_get_cas
             let small_other = subst IsSmall other.3 (smalls j other.0 other.1) in
             let o = overlap_from_meets start start def.rank def.rank one.0 other.0 small_one small_other m_both in
             let there : get_or def.accesses.items k other.0 ≡ one.0 = get_or_default def.accesses.items k other.0 one.0 one.1 ∙ one.3 in
-            All-head IsApart def defs alone k j other.0 order other.1 (subst (λ (a : Access). Overlaps a.span (get_or def.accesses.items j other.0).span) (sym there)
+            All-head IsApart def defs alone k j other.0 order other.1
+            (subst (λ (a : Access). Overlaps a.span (get_or def.accesses.items j other.0).span) (sym there)
             (subst (λ (a : Access). Overlaps one.0.span a.span) (sym other.3) o.overlap))
         | inr past ↦
             absurd (omega (
@@ -188,8 +209,10 @@ apart (def ∷ defs) start k j small alone order lt same m = elim (slice_get_cas
       let j_past : length def.accesses.items ≤ j = omega (arith, past.0, order) in
       let k_is = other_region def defs start k past.0 in
       let j_is = other_region def defs start j j_past in
-      apart defs (start + 1) (k - length def.accesses.items) (j - length def.accesses.items) (All-tail IsSmallTask def defs small) (All-tail IsApart def defs alone)
-      (omega (arith, order, past.0)) (omega (arith, lt, j_past, all_long def defs start)) (sym (ap (λ (r : Region). r.task) k_is) ∙ same ∙ ap (λ (r : Region). r.task) j_is)
+      apart defs (start + 1) (k - length def.accesses.items) (j - length def.accesses.items) (All-tail IsSmallTask def defs small)
+      (All-tail IsApart def defs alone)
+      (omega (arith, order, past.0)) (omega (arith, lt, j_past, all_long def defs start)) (sym (ap (λ (r : Region). r.task) k_is) ∙ same
+      ∙ ap (λ (r : Region). r.task) j_is)
       (subst (λ (r : Region). Meets r (region_at (regions_from (start + 1) defs) (j - length def.accesses.items))) k_is
       (subst (λ (r : Region). Meets (region_at (regions_from start (def ∷ defs)) k) r) j_is m))
 ]
@@ -207,5 +230,7 @@ added_more task rank accesses i d before now now' region lt so_far is pushed =
 pub regions_more : (tasks : List TaskDef) (task : ℕ) (def : TaskDef) (now now' all : List Region) → task < length tasks → def ≡ get_or tasks task def →
     now ++ regions_from task (drop task tasks) ≡ all → now' ≡ now ++ regions_of task def → now' ++ regions_from (task + 1) (drop (task + 1) tasks) ≡ all
 regions_more tasks task def now now' all lt is so_far added =
-    ap (λ (l : List Region). l ++ regions_from (task + 1) (drop (task + 1) tasks)) added ∙ append_assoc now (regions_of task def) (regions_from (task + 1) (drop (task + 1) tasks)) ∙
-    ap (λ (d : TaskDef). now ++ regions_from task (d ∷ drop (task + 1) tasks)) is ∙ ap (λ (l : List TaskDef). now ++ regions_from task l) (sym (drop_more tasks task def lt)) ∙ so_far
+    ap (λ (l : List Region). l ++ regions_from (task + 1) (drop (task + 1) tasks)) added
+    ∙ append_assoc now (regions_of task def) (regions_from (task + 1) (drop (task + 1) tasks)) ∙
+    ap (λ (d : TaskDef). now ++ regions_from task (d ∷ drop (task + 1) tasks)) is
+    ∙ ap (λ (l : List TaskDef). now ++ regions_from task l) (sym (drop_more tasks task def lt)) ∙ so_far

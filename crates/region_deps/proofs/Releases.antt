@@ -19,15 +19,18 @@ use Rattle.region_deps.proofs.Starts.{marked_by, marked_still}
 use Rattle.region_deps.proofs.Beginnings.{accesses_read}
 
 -- what the graph keeps speaks of the links, of what is gone and of what was handed out alone
-waiting_is : (w : Waiting) (links : List Link) (gone handed : List Bool) → w.links ≡ links → w.gone ≡ gone → w.handed ≡ handed → w ≡ record { links = links; gone = gone; handed = handed }
+waiting_is : (w : Waiting) (links : List Link) (gone handed : List Bool) → w.links ≡ links → w.gone ≡ gone → w.handed ≡ handed
+    → w ≡ record { links = links; gone = gone; handed = handed }
 waiting_is w links gone handed links_are gone_is handed_is =
-    let first : w ≡ record { links = links; gone = w.gone; handed = w.handed } = ap {B = Waiting} (λ (l : List Link). record { links = l; gone = w.gone; handed = w.handed }) links_are in
+    let first : w ≡ record { links = links; gone = w.gone; handed = w.handed } =
+    ap {B = Waiting} (λ (l : List Link). record { links = l; gone = w.gone; handed = w.handed }) links_are in
     let second = ap {B = Waiting} (λ (l : List Bool). record { links = links; gone = l; handed = w.handed }) gone_is in
     let third = ap {B = Waiting} (λ (l : List Bool). record { links = links; gone = gone; handed = l }) handed_is in
     first ∙ second ∙ third
 
 -- a task that is open is handed out
-pub held_next : (tasks : List TaskDef) (w w' : Waiting) (first heads waiting : List ℕ) (released : List Bool) (task : ℕ) → IsHeld tasks w first heads waiting released → IsOpen w task →
+pub held_next : (tasks : List TaskDef) (w w' : Waiting) (first heads waiting : List ℕ) (released : List Bool) (task : ℕ)
+    → IsHeld tasks w first heads waiting released → IsOpen w task →
     w'.links ≡ w.links → w'.gone ≡ w.gone → w'.handed ≡ set w.handed task true → IsHeld tasks w' first heads waiting released
 held_next tasks w w' first heads waiting released task h opened links gone handed =
     let now : Waiting = record { links = w.links; gone = w.gone; handed = set w.handed task true } in
@@ -62,7 +65,8 @@ pub record IsReleasable (tasks : List TaskDef) (w : Waiting) (first heads waitin
   pub head : get_or heads task 0 < length tasks
   pub held : 0 < get_or waiting (get_or heads task 0) 0
 
-pub releasable : (tasks : List TaskDef) (w : Waiting) (first heads waiting : List ℕ) (released : List Bool) (task : ℕ) → IsHeld tasks w first heads waiting released →
+pub releasable : (tasks : List TaskDef) (w : Waiting) (first heads waiting : List ℕ) (released : List Bool) (task : ℕ)
+    → IsHeld tasks w first heads waiting released →
     slice_get released task ≡ Some false → IsReleasable tasks w first heads waiting task
 releasable tasks w first heads waiting released task h held =
     let exists : task < length tasks = omega (arith, slice_get_within released task false held, h.released_long) in
@@ -83,8 +87,10 @@ releasable tasks w first heads waiting released task h held =
     }
 
 -- the accesses of the task, and they alone, are gone with it
-region_done : (tasks : List TaskDef) (w w' : Waiting) (first heads waiting : List ℕ) (released : List Bool) (task k : ℕ) → IsHeld tasks w first heads waiting released → task < length tasks →
-    IsGone w w' (get_or first task 0) (get_or first (task + 1) 0) → k < region_count tasks → is_gone w'.gone k ≡ get_or (set released task true) (task_at (regions_from 0 tasks) k) false
+region_done : (tasks : List TaskDef) (w w' : Waiting) (first heads waiting : List ℕ) (released : List Bool) (task k : ℕ)
+    → IsHeld tasks w first heads waiting released → task < length tasks →
+    IsGone w w' (get_or first task 0) (get_or first (task + 1) 0) → k < region_count tasks
+    → is_gone w'.gone k ≡ get_or (set released task true) (task_at (regions_from 0 tasks) k) false
 region_done tasks w w' first heads waiting released task k h exists r lt =
     let from = placed tasks 0 task k (omega (arith, exists)) lt in
     let upto = placed tasks 0 (task + 1) k (omega (arith, exists)) lt in
@@ -97,7 +103,8 @@ region_done tasks w w' first heads waiting released task k h exists r lt =
             | inl before ↦ before
             | inr past ↦ absurd (omega (arith, same, upto.0 (omega (arith, past, upto_is))))
           ] in
-          r.inside k behind_from below ∙ sym (get_or-set_at released task (task_at (regions_from 0 tasks) k) true false same (omega (arith, exists, h.released_long)))
+          r.inside k behind_from below ∙ sym (get_or-set_at released task (task_at (regions_from 0 tasks) k) true false same
+          (omega (arith, exists, h.released_long)))
       | inr other ↦
           let away : (k < get_or first task 0) ⊎ (get_or first (task + 1) 0 ≤ k) = elim (cases_lt k (get_or first task 0)) [
             | inl before ↦ inl before
@@ -125,7 +132,8 @@ still_gone_if w w' source k now r was = elim (cases_eq k source) [
 ]
 
 -- the task is released: its accesses go, and its group where it was the last task of that
-pub held_release : (tasks : List TaskDef) (w w' w'' : Waiting) (first heads waiting waiting' : List ℕ) (released : List Bool) (task : ℕ) → IsHeld tasks w first heads waiting released →
+pub held_release : (tasks : List TaskDef) (w w' w'' : Waiting) (first heads waiting waiting' : List ℕ) (released : List Bool) (task : ℕ)
+    → IsHeld tasks w first heads waiting released →
     slice_get w.handed task ≡ Some true → slice_get released task ≡ Some false → IsGone w w' (get_or first task 0) (get_or first (task + 1) 0) →
     IsGoneIf w' w'' (region_count tasks + get_or heads task 0) (get_or waiting (get_or heads task 0) 0 - 1 == 0) →
     waiting' ≡ set waiting (get_or heads task 0) (get_or waiting (get_or heads task 0) 0 - 1) → IsHeld tasks w'' first heads waiting' (set released task true)
@@ -156,20 +164,35 @@ held_release tasks w w' w'' first heads waiting waiting' released task h was_han
         | inl same ↦
             let right = ap {B = Bool} (λ (n : ℕ). n == 0) (set_here (get_or heads u 0) same) in
             let left = ap {B = Bool} (λ (n : ℕ). is_gone w''.gone (region_count tasks + n)) same in
-            let before = r.outside group (inr (omega (arith, can.within))) ∙ h.groups_gone task can.exists ∙ ne_eqb (get_or waiting head 0) 0 (λ f. absurd (omega (arith, f, can.held))) in
+            let before = r.outside group (inr (omega (arith, can.within))) ∙ h.groups_gone task can.exists
+            ∙ ne_eqb (get_or waiting head 0) 0 (λ f. absurd (omega (arith, f, can.held))) in
             elim (cases_Bool now) [
               | inl goes ↦ left ∙ i.goes goes ∙ sym goes ∙ sym right
               | inr stays ↦ left ∙ i.stays stays ∙ before ∙ sym stays ∙ sym right
             ]
         | inr other ↦
-            i.outside (region_count tasks + get_or heads u 0) (λ f. absurd (other (omega (arith, f)))) ∙ r.outside (region_count tasks + get_or heads u 0) (inr (omega (arith, can.within))) ∙
+            i.outside (region_count tasks + get_or heads u 0) (λ f. absurd (other (omega (arith, f))))
+            ∙ r.outside (region_count tasks + get_or heads u 0) (inr (omega (arith, can.within))) ∙
             h.groups_gone u lt ∙ sym (ap {B = Bool} (λ (n : ℕ). n == 0) (kept (get_or heads u 0) other))
       ];
       counted = λ other lt.
           let less = held_less other heads released task (h.linked.grouped.long ∙ sym h.released_long) was_held in
           elim (cases_eq other head) [
-            | inl same ↦ omega (arith, set_here other same, less, h.counted other lt, ap (λ (n : ℕ). get_or waiting n 0) same, ap {B = ℕ} (λ (b : Bool). cond b 1 0) (eq-eqb head other (sym same)))
-            | inr differ ↦ omega (arith, kept other differ, less, h.counted other lt, ap {B = ℕ} (λ (b : Bool). cond b 1 0) (ne_eqb head other (λ f. differ (sym f))))
+            | inl same ↦ omega (
+              arith,
+              set_here other same,
+              less,
+              h.counted other lt,
+              ap (λ (n : ℕ). get_or waiting n 0) same,
+              ap {B = ℕ} (λ (b : Bool). cond b 1 0) (eq-eqb head other (sym same)),
+            )
+            | inr differ ↦ omega (
+              arith,
+              kept other differ,
+              less,
+              h.counted other lt,
+              ap {B = ℕ} (λ (b : Bool). cond b 1 0) (ne_eqb head other (λ f. differ (sym f))),
+            )
           ];
       let_in = λ u is k here.
           still_gone_if w' w'' group k now i (still_gone w w' (get_or first task 0) (get_or first (task + 1) 0) k r
@@ -189,7 +212,8 @@ pub record IsRange (tasks : List TaskDef) (w : Waiting) (first : List ℕ) (task
   pub from_is : from ≡ get_or first task 0
   pub upto_is : upto ≡ get_or first (task + 1) 0
 
-pub range_read : (tasks : List TaskDef) (w : Waiting) (first heads waiting : List ℕ) (released : List Bool) (task from upto : ℕ) → IsHeld tasks w first heads waiting released →
+pub range_read : (tasks : List TaskDef) (w : Waiting) (first heads waiting : List ℕ) (released : List Bool) (task from upto : ℕ)
+    → IsHeld tasks w first heads waiting released →
     slice_get released task ≡ Some false → from ≡ get_or first task from → upto ≡ get_or first (task + 1) upto → IsRange tasks w first task from upto
 range_read tasks w first heads waiting released task from upto h held from_read upto_read =
     let can = releasable tasks w first heads waiting released task h held in
@@ -212,8 +236,10 @@ pub record IsGroup (tasks : List TaskDef) (w : Waiting) (heads waiting : List �
   pub accesses_is : accesses ≡ region_count tasks
   pub head_is : head ≡ get_or heads task 0
 
-pub group_of : (tasks : List TaskDef) (w : Waiting) (first heads waiting : List ℕ) (released : List Bool) (task many accesses head : ℕ) → IsHeld tasks w first heads waiting released →
-    slice_get released task ≡ Some false → many ≡ length heads → accesses ≡ get_or first many accesses → head ≡ get_or heads task head → IsGroup tasks w heads waiting task accesses head
+pub group_of : (tasks : List TaskDef) (w : Waiting) (first heads waiting : List ℕ) (released : List Bool) (task many accesses head : ℕ)
+    → IsHeld tasks w first heads waiting released →
+    slice_get released task ≡ Some false → many ≡ length heads → accesses ≡ get_or first many accesses → head ≡ get_or heads task head
+    → IsGroup tasks w heads waiting task accesses head
 group_of tasks w first heads waiting released task many accesses head h held many_is accesses_read head_read =
     let can = releasable tasks w first heads waiting released task h held in
     let many_tasks : many ≡ length tasks = many_is ∙ h.linked.grouped.long in
@@ -228,12 +254,15 @@ group_of tasks w first heads waiting released task many accesses head h held man
       head_is = head_is;
     }
 
-pub held_release_read : (tasks : List TaskDef) (w w' w'' : Waiting) (first heads waiting waiting' : List ℕ) (released : List Bool) (task from upto accesses head : ℕ) →
-    IsHeld tasks w first heads waiting released → slice_get w.handed task ≡ Some true → slice_get released task ≡ Some false → IsRange tasks w first task from upto →
+pub held_release_read : (tasks : List TaskDef) (w w' w'' : Waiting) (first heads waiting waiting' : List ℕ) (released : List Bool)
+    (task from upto accesses head : ℕ) →
+    IsHeld tasks w first heads waiting released → slice_get w.handed task ≡ Some true → slice_get released task ≡ Some false
+    → IsRange tasks w first task from upto →
     IsGroup tasks w heads waiting task accesses head → IsGone w w' from upto → IsGoneIf w' w'' (accesses + head) (get_or waiting head 0 - 1 == 0) →
     waiting' ≡ set waiting head (get_or waiting head 0 - 1) → IsHeld tasks w'' first heads waiting' (set released task true)
 held_release_read tasks w w' w'' first heads waiting waiting' released task from upto accesses head h was_handed was_held range group r i e =
     let r_now = subst (λ (n : ℕ). IsGone w w' n (get_or first (task + 1) 0)) range.from_is (subst (λ (n : ℕ). IsGone w w' from n) range.upto_is r) in
     let i_now = subst (λ (n : ℕ). IsGoneIf w' w'' (region_count tasks + n) (get_or waiting n 0 - 1 == 0)) group.head_is
     (subst (λ (n : ℕ). IsGoneIf w' w'' (n + head) (get_or waiting head 0 - 1 == 0)) group.accesses_is i) in
-    held_release tasks w w' w'' first heads waiting waiting' released task h was_handed was_held r_now i_now (e ∙ ap (λ (n : ℕ). set waiting n (get_or waiting n 0 - 1)) group.head_is)
+    held_release tasks w w' w'' first heads waiting waiting' released task h was_handed was_held r_now i_now (e
+    ∙ ap (λ (n : ℕ). set waiting n (get_or waiting n 0 - 1)) group.head_is)

@@ -6,7 +6,7 @@ use Rattle.std.proofs.lemmas.Option.{slice_get_within, slice_get_cases, slice_ge
 use Rattle.std.proofs.lemmas.Bool.{cases_eq, cases_lt, eq-eqb, eqb-true, false≢true}
 use Rattle.rt_base.specs.declared.data.TaskDef.{TaskDef}
 use Rattle.rt_base.specs.declared.data.Program.{Program}
-use Rattle.rt_base.specs.Precedes.{Precedes, MayStart}
+use Rattle.rt_base.specs.Precedes.{Precedes, MayStart, LetsPass}
 use Rattle.region_deps.specs.Links.{link, is_gone, IsLetIn, Waiting}
 use Rattle.region_deps.specs.Clashes.{task_at, IsClosed}
 use Rattle.region_deps.specs.Lines.{regions_from}
@@ -40,7 +40,8 @@ never_marked n u is = absurd (false≢true (sym (never_gone n u) ∙ get_or_from
 
 -- all earlier groups of the rank are released, where the task is let in
 before_group : (tasks : List TaskDef) (w : Waiting) (first heads waiting : List ℕ) (released : List Bool) → IsHeld tasks w first heads waiting released →
-    (fuel task u : ℕ) → task < fuel → task < length tasks → IsLetIn w.links (is_gone w.gone) task → u < get_or heads task 0 → rank_at tasks u ≡ rank_at tasks task →
+    (fuel task u : ℕ) → task < fuel → task < length tasks → IsLetIn w.links (is_gone w.gone) task → u < get_or heads task 0
+    → rank_at tasks u ≡ rank_at tasks task →
     slice_get released u ≡ Some true
 before_group tasks w first heads waiting released h zero task u fueled lt let_in below ranks = absurd (omega (arith, fueled))
 before_group tasks w first heads waiting released h (suc fuel) task u fueled lt let_in below ranks =
@@ -53,7 +54,8 @@ before_group tasks w first heads waiting released h (suc fuel) task u fueled lt 
     let on = after tasks h.orderly.order before task (omega (arith, next, low)) lt in
     let one_rank : rank_at tasks before ≡ rank_at tasks task = omega (arith, up.rank, on.rank, ranks) in
     let source : ℕ = region_count tasks + get_or heads before 0 in
-    let gone = let_in source (h.linked.barriers (link source task) (record { before = before; exists = lt; next = next; one_rank = one_rank; source = refl })) in
+    let gone = let_in source (h.linked.barriers (link source task)
+    (record { before = before; exists = lt; next = next; one_rank = one_rank; source = refl })) in
     let none = eqb-true (get_or waiting (get_or heads before 0) 0) 0 (sym (h.groups_gone before inside) ∙ gone) in
     let before_low = (g.each before inside).low in
     let empty = sym (h.counted (get_or heads before 0) (omega (arith, before_low, inside))) ∙ none in
@@ -62,7 +64,8 @@ before_group tasks w first heads waiting released h (suc fuel) task u fueled lt 
     elim (cases_lt u (get_or heads before 0)) [
       | inl earlier ↦
           let done = all before (omega (arith, inside, g.long)) refl in
-          before_group tasks w first heads waiting released h fuel before u (omega (arith, fueled, next, low)) inside (h.let_in before (h.started before done)) earlier (ranks ∙ sym one_rank)
+          before_group tasks w first heads waiting released h fuel before u (omega (arith, fueled, next, low)) inside
+          (h.let_in before (h.started before done)) earlier (ranks ∙ sym one_rank)
       | inr from ↦ all u (omega (arith, below, low, lt, g.long)) (one_head tasks heads g u before from (omega (arith, next, below)) inside)
     ]
 
@@ -73,12 +76,20 @@ closed tasks w first heads waiting released h k j within here gone =
     let done = marked_at released (task_at (regions_from 0 tasks) j) (sym (h.regions_gone j within) ∙ gone) in
     h.let_in (task_at (regions_from 0 tasks) j) (h.started (task_at (regions_from 0 tasks) j) done) k here
 
+-- a released task lets each later one past, and no other task does
+passes : (program : Program) (released : List Bool) (u t : ℕ) → slice_get released u ≡ Some true → LetsPass program (record { released = released }) u t
+passes program released u t is = is
+
+has_passed : (program : Program) (released : List Bool) (u t : ℕ) → LetsPass program (record { released = released }) u t → slice_get released u ≡ Some true
+has_passed program released u t passed = passed
+
 -- a task that is let in may start
-pub starts_if_let_in : (program : Program) (w : Waiting) (first heads waiting : List ℕ) (released : List Bool) → IsHeld program.tasks.items w first heads waiting released →
+pub starts_if_let_in : (program : Program) (w : Waiting) (first heads waiting : List ℕ) (released : List Bool)
+    → IsHeld program.tasks.items w first heads waiting released →
     (task : ℕ) → task < length program.tasks.items → IsLetIn w.links (is_gone w.gone) task → MayStart program (record { released = released }) task
 starts_if_let_in program w first heads waiting released h task lt let_in = record {
   exists = lt;
-  freed = λ u p.
+  freed = λ u p. passes program released u task (
       let tasks : List TaskDef = program.tasks.items in
       let g = h.linked.grouped in
       let ranks : rank_at tasks u ≡ rank_at tasks task = rank_is tasks u p.earlier p.is_earlier ∙ p.before.0 ∙ sym (rank_is tasks task p.later p.is_later) in
@@ -96,11 +107,12 @@ starts_if_let_in program w first heads waiting released h task lt let_in = recor
               let same = sym (own tasks heads g u (omega (arith, p.order, lt))).epoch ∙ ap (epoch_at tasks) one ∙ (own tasks heads g task lt).epoch in
               absurd (omega (arith, epochs, same, epoch_is tasks u p.earlier p.is_earlier, epoch_is tasks task p.later p.is_later))
         ]
-      ];
+      ]);
 }
 
 -- each task of the group before precedes the task
-precedes_by_epoch : (program : Program) (heads : List ℕ) → IsOrderly program.tasks.items → IsGrouped program.tasks.items heads → (task before x : ℕ) → task < length program.tasks.items →
+precedes_by_epoch : (program : Program) (heads : List ℕ) → IsOrderly program.tasks.items → IsGrouped program.tasks.items heads → (task before x : ℕ)
+    → task < length program.tasks.items →
     get_or heads task 0 ≡ before + 1 → rank_at program.tasks.items before ≡ rank_at program.tasks.items task → x < length program.tasks.items →
     get_or heads x 0 ≡ get_or heads before 0 → Precedes program x task
 precedes_by_epoch program heads orderly g task before x lt next ranks x_in one =
@@ -142,20 +154,25 @@ precedes_by_epoch program heads orderly g task before x lt next ranks x_in one =
     ]
 
 -- a task that may start is let in
-pub let_in_if_starts : (program : Program) (w : Waiting) (first heads waiting : List ℕ) (released : List Bool) → IsHeld program.tasks.items w first heads waiting released →
+pub let_in_if_starts : (program : Program) (w : Waiting) (first heads waiting : List ℕ) (released : List Bool)
+    → IsHeld program.tasks.items w first heads waiting released →
     (task : ℕ) → MayStart program (record { released = released }) task → IsLetIn w.links (is_gone w.gone) task
 let_in_if_starts program w first heads waiting released h task start k here =
     let tasks : List TaskDef = program.tasks.items in
     let g = h.linked.grouped in
     elim (h.linked.sound (link k task) here) [
       | inl waits ↦
-          let p = subst (Precedes program (task_at (regions_from 0 tasks) k)) waits.of_task (precedes_from_clash program h.orderly h.small k waits.region waits.clash) in
-          let done = get_or_from_slice_get released (task_at (regions_from 0 tasks) k) true false (start.freed (task_at (regions_from 0 tasks) k) p) in
+          let p = subst (Precedes program (task_at (regions_from 0 tasks) k)) waits.of_task
+          (precedes_from_clash program h.orderly h.small k waits.region waits.clash) in
+          let done = get_or_from_slice_get released (task_at (regions_from 0 tasks) k) true false
+          (has_passed program released (task_at (regions_from 0 tasks) k) task (start.freed (task_at (regions_from 0 tasks) k) p)) in
           h.regions_gone k (omega (arith, waits.clash.earlier, waits.clash.within)) ∙ done
       | inr b ↦
           let inside : b.before < length tasks = omega (arith, b.next, (g.each task b.exists).low, b.exists) in
           let empty = all_released (get_or heads b.before 0) heads released (g.long ∙ sym h.released_long)
-          (λ x x_in one. start.freed x (precedes_by_epoch program heads h.orderly g task b.before x b.exists b.next b.one_rank (omega (arith, x_in, g.long)) one)) in
+          (λ x x_in one.
+          has_passed program released x task
+          (start.freed x (precedes_by_epoch program heads h.orderly g task b.before x b.exists b.next b.one_rank (omega (arith, x_in, g.long)) one))) in
           let none = h.counted (get_or heads b.before 0) (omega (arith, (g.each b.before inside).low, inside)) ∙ empty in
           ap (is_gone w.gone) b.source ∙ h.groups_gone b.before inside ∙ eq-eqb (get_or waiting (get_or heads b.before 0) 0) 0 none
     ]

@@ -55,7 +55,8 @@ pub record IsHeld (tasks : List TaskDef) (w : Waiting) (first heads waiting : Li
   pub released_long : length released ≡ length tasks
   pub waiting_long : length waiting ≡ length tasks
   pub regions_gone : (k : ℕ) → k < region_count tasks → is_gone w.gone k ≡ slice_index_or released (task_at (regions_from 0 tasks) k) false
-  pub groups_gone : (task : ℕ) → task < length tasks → is_gone w.gone (region_count tasks + slice_index heads task) ≡ (slice_index waiting (slice_index heads task) == 0)
+  pub groups_gone : (task : ℕ) → task < length tasks → is_gone w.gone (region_count tasks + slice_index heads task) ≡
+      (slice_index waiting (slice_index heads task) == 0)
   pub counted : (head : ℕ) → head < length tasks → slice_index waiting head ≡ held_of head heads released
   pub let_in : (task : ℕ) → slice_get w.handed task ≡ Some true → IsLetIn w.links (is_gone w.gone) task
   pub started : (task : ℕ) → slice_get released task ≡ Some true → slice_get w.handed task ≡ Some true

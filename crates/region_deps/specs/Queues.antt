@@ -8,9 +8,10 @@ abbrev pub due : ℕ → Bool → ℕ
 due zero handed = cond handed 0 1
 due (suc left) handed = 0
 
-abbrev pub is_held : ℕ → Bool
-is_held zero = false
-is_held (suc left) = true
+-- whether something is still waited for, of so many things
+abbrev pub is_waited_for : ℕ → Bool
+is_waited_for zero = false
+is_waited_for (suc left) = true
 
 -- the task, where nothing holds it
 abbrev pub offered : ℕ → ℕ → List ℕ
@@ -27,13 +28,14 @@ pub record IsQueued (left : List ℕ) (handed : List Bool) (startable : List ℕ
 
 -- the list has room for each task that still waits
 abbrev pub HasRoom : List ℕ → List ℕ → ℕ → Type 0
-HasRoom left startable capacity = length startable + count_by is_held left ≤ capacity
+HasRoom left startable capacity = length startable + count_by is_waited_for left ≤ capacity
 
 -- the links of the source stand together, from its place up to that of the next source
 pub record HasPlace (links : List Link) (first : List ℕ) (source : ℕ) : Type 0 where
   pub order : slice_index_or first source 0 ≤ slice_index_or first (source + 1) 0
   pub inside : slice_index_or first (source + 1) 0 ≤ length links
-  pub parts : (task : ℕ) → count_by (is_to task) (slice_range links (slice_index_or first source 0) (slice_index_or first (source + 1) 0)) ≡ count_by (is_between source task) links
+  pub parts : (task : ℕ) → count_by (is_to task) (slice_range links (slice_index_or first source 0) (slice_index_or first (source + 1) 0)) ≡ count_by
+      (is_between source task) links
 
 -- the links of lower sources stand before this place, and the others from it on
 pub record IsPlace (links : List Link) (source place : ℕ) : Type 0 where

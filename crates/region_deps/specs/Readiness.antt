@@ -15,8 +15,8 @@ pub record IsWhole (ready : Readiness) : Type 0 where
   pub released : length ready.gone.released ≡ length ready.program.tasks.items
 
 -- no task was handed out, and none is released
-abbrev pub untouched : Program → Readiness
-untouched program = record {
+abbrev pub none_handed_out : Program → Readiness
+none_handed_out program = record {
   program = program;
   handed = replicate (length program.tasks.items) false;
   gone = record { released = replicate (length program.tasks.items) false };

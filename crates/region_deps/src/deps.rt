@@ -1,9 +1,9 @@
 //! The dependency graph of a program.
 
 ghost use Rattle.std.specs.Prelude.{◌≡◌, ◌==◌, ◌<◌, ◌≤◌, ◌+◌, ◌-◌, ◌↔◌, ℕ, IsTrue, length, true, false, All, IfOk, IfSome, IfNone, OnOk, slice_get, slice_index, slice_set, Some};
-ghost use Rattle.rt_base.specs.Precedes.{MayStart};
+ghost use Rattle.rt_base.specs.Precedes.{MayStart, GoneMore};
 ghost use Rattle.rt_base.specs.WellFormed.{WellFormed};
-ghost use Rattle.region_deps.specs.Readiness.{Readiness, IsWhole, IsStartable, untouched};
+ghost use Rattle.region_deps.specs.Readiness.{Readiness, IsWhole, IsStartable, none_handed_out};
 ghost use Rattle.region_deps.specs.Holding.{IsOrderly, IsGone, IsGoneIf, IsLinkedUp, region_count};
 ghost use Rattle.region_deps.specs.Epochs.{IsGrouped};
 ghost use Rattle.region_deps.specs.Clashes.{IsFull, IsSound};
@@ -55,7 +55,7 @@ impl Deps {
     /// that these cover, times a logarithm.
     pub fn build(alloc: Global, prog: &Program) -> Result<Deps, AllocError>
         requires { WellFormed prog.now }
-        ensures untouched { IfOk result (λ deps. deps ≡ untouched prog.now) }
+        ensures none_handed_out { IfOk result (λ deps. deps ≡ none_handed_out prog.now) }
         ensures places { IfOk result (λ deps. IsWhole deps) }
     {
         Deps::of_tasks(alloc, prog)
@@ -64,7 +64,7 @@ impl Deps {
     // The same for any program whose tasks are in order and whose accesses do not overlap within a task.
     fn of_tasks(alloc: Global, prog: &Program) -> Result<Deps, AllocError>
         requires { IsOrderly prog.now.tasks.items }
-        ensures untouched { IfOk result (λ deps. deps ≡ untouched prog.now) }
+        ensures none_handed_out { IfOk result (λ deps. deps ≡ none_handed_out prog.now) }
         ensures places { IfOk result (λ deps. IsWhole deps) }
     {
         let tasks = prog.tasks.as_slice();
@@ -121,6 +121,7 @@ impl Deps {
         ensures program { self.new.program ≡ self.old.program }
         ensures handed { self.new.handed ≡ self.old.handed }
         ensures released { self.new.gone.released ≡ slice_set self.old.gone.released task.0 true }
+        ensures more { GoneMore self.old.gone self.new.gone }
         ensures places { IsWhole self.new }
     {
         let task = task.0 as usize;

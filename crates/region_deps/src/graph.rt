@@ -149,7 +149,8 @@ fn count_down(links: &[Link], left: &mut Vec<usize>, startable: &mut Vec<u32>)
     requires enough { (task : ℕ) → task < length left.old.items → count_by (is_to task) links.now ≤ slice_index_or left.old.items task 1 }
     requires room { HasRoom left.old.items startable.old.items (vec_capacity startable.old) }
     ensures long { length left.new.items ≡ length left.old.items }
-    ensures left { (task : ℕ) → task < length left.old.items → slice_index_or left.new.items task 1 + count_by (is_to task) links.now ≡ slice_index_or left.old.items task 1 }
+    ensures left { (task : ℕ) → task < length left.old.items
+        → slice_index_or left.new.items task 1 + count_by (is_to task) links.now ≡ slice_index_or left.old.items task 1 }
     ensures queued { (handed : List Bool) → IsQueued left.old.items handed startable.old.items → IsQueued left.new.items handed startable.new.items }
     ensures room { HasRoom left.new.items startable.new.items (vec_capacity startable.new) }
 {

@@ -1,11 +1,10 @@
 //! The accesses of a program as regions on one line of places.
 
 ghost use Rattle.std.specs.Prelude.{◌≡◌, ℕ, ◌+◌, ◌<◌, ◌≤◌, ◌++◌, All, IfOk, OnOk, length, slice_index, sum_by};
-ghost use Rattle.rt_base.specs.Spans.{is_written};
 ghost use Rattle.region_deps.specs.Lines.{place_of, region_of, regions_of, regions_from, access_count, accesses_before, IsSmall, IsSmallTask};
 
 use crate::segments::Region;
-use rt_base::{Access, Mode, TaskDef};
+use rt_base::{Access, TaskDef};
 use std::alloc::{AllocError, Global};
 
 // How many places each array has on the line, and each rank.
@@ -22,17 +21,6 @@ fn place_of(rank: u16, array: u16, cell: u32) -> u64
     u64::from(rank) * RANK + u64::from(array) * ARRAY + u64::from(cell)
 }
 
-// Whether a task may change the cells of such an access.
-fn is_written(mode: Mode) -> bool
-    ensures { result ≡ is_written mode }
-{
-    match mode {
-        Mode::In => false,
-        Mode::Out => true,
-        Mode::Inout => true,
-    }
-}
-
 // The region of an access of the task.
 fn region_of(task: u32, rank: u16, access: &Access) -> Region
     ensures region { result ≡ region_of task rank access.now }
@@ -43,7 +31,7 @@ fn region_of(task: u32, rank: u16, access: &Access) -> Region
         task,
         from: place_of(rank, span.array, span.from),
         to: place_of(rank, span.array, span.to),
-        writes: is_written(access.mode),
+        writes: access.mode.is_written(),
     }
 }
 

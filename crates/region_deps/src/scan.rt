@@ -3,7 +3,7 @@
 ghost use Rattle.std.specs.Prelude.{◌↔◌, IsTrue};
 ghost use Rattle.rt_base.specs.Spans.{Overlaps};
 
-use rt_base::{Access, Mode, Span, TaskDef};
+use rt_base::{Access, Span, TaskDef};
 
 /// Whether the two spans name one array and share a cell.
 pub fn overlaps(one: &Span, other: &Span) -> bool
@@ -14,7 +14,7 @@ pub fn overlaps(one: &Span, other: &Span) -> bool
 
 // Whether the regions overlap and at least one of them is written.
 fn conflicts(one: &Access, other: &Access) -> bool {
-    overlaps(&one.span, &other.span) && (one.mode != Mode::In || other.mode != Mode::In)
+    overlaps(&one.span, &other.span) && (one.mode.is_written() || other.mode.is_written())
 }
 
 // Whether some region of the one conflicts with some region of the other.

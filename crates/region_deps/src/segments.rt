@@ -94,7 +94,8 @@ fn touch_all(
     links: &mut Vec<Link>,
 ) -> Result<(), AllocError>
     requires { region.now.to ≤ length segments.old.items }
-    ensures { OnOk result (IsTouched segments.old.items segments.new.items region.now.from region.now.to number region.now.task region.now.writes links.old.items links.new.items) }
+    ensures { OnOk result (IsTouched segments.old.items segments.new.items region.now.from region.now.to
+        number region.now.task region.now.writes links.old.items links.new.items) }
 {
     for at in region.from..region.to {
         segments[at as usize].touch(number, region.writes, region.task, links)?;

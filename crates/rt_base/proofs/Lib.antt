@@ -1,2 +1,5 @@
+mod Layouts
 mod ReadLemmas
 mod WriteLemmas
+pub mod SameRequest
+pub mod Postings

@@ -7,11 +7,10 @@ use Rattle.rt_base.specs.declared.data.Peer.{Peer}
 use Rattle.rt_base.specs.declared.data.Peer.TheVariants as peer
 use Rattle.rt_base.specs.declared.data.How.{How}
 use Rattle.rt_base.specs.declared.data.Op.{Op}
-use Rattle.rt_base.specs.declared.data.Op.TheVariants as op
 use Rattle.rt_base.specs.declared.data.Status.{Status}
 use Rattle.rt_base.specs.declared.data.Program.{Program}
 use Rattle.rt_base.specs.Spans.{span_len}
-use Rattle.rt_base.specs.Operations.{posting_of, is_standard, is_receive}
+use Rattle.rt_base.specs.Operations.{posting_of, is_standard, is_receive, by_parts_of}
 use Rattle.rt_base.specs.Matching.{Message, same_request}
 use Rattle.rt_base.specs.Exchange.{Exchange, Match}
 
@@ -35,10 +34,7 @@ abbrev pub completes_at_once : ℕ → How → Span → Peer → Bool
 completes_at_once eager how span whom = is_null whom || (is_standard how && nat_le (span_len span) eager)
 
 abbrev pub completes_alone : ℕ → Option Op → Bool
-completes_alone eager None = false
-completes_alone eager (Some (op.Compute kernel dst left right value step)) = false
-completes_alone eager (Some (op.Post how span whom tag comm status)) = completes_at_once eager how span whom
-completes_alone eager (Some (op.Await later handles status)) = false
+completes_alone eager operation = by_parts_of false (λ posted. completes_at_once eager posted.how posted.span posted.peer) (λ waited. false) operation
 
 -- the request was posted
 abbrev pub is_posted : Exchange → ReqNo → Bool
@@ -53,15 +49,17 @@ is_complete program exchange req =
 abbrev pub stored_cells : Span → Message → List ℤ
 stored_cells span message = take (span_len span) message.cells
 
--- the status of a send, and of the null request (MPI 4.0, 3.7.3: the empty status)
+-- the empty status: of the null request (MPI 4.0, 3.7.3), and here of every send, of whose status MPI says nothing
+-- (any source, any tag and no error as -1, -1 and 0 are this project's)
 abbrev pub empty_status : Status
 empty_status = record { source = negsuc 0; tag = negsuc 0; count = 0; error = 0 }
 
--- the status of a receive from the null process (MPI 4.0, 3.11)
+-- the status of a receive from the null process: the null process, any tag, no cell (MPI 4.0, 3.11; -2 and -1 are this project's)
 abbrev pub null_status : Status
 null_status = record { source = negsuc 1; tag = negsuc 0; count = 0; error = 0 }
 
--- the status of a receive that took this message (MPI 4.0, 3.2.5)
+-- the status of a receive that took this message: its source and tag, and how many cells were stored (MPI 4.0, 3.2.5;
+-- error 1 of a message that was cut, and 0 of every other, are this project's)
 abbrev pub message_status : Span → Message → Status
 message_status span message = record {
   source = pos message.source;
@@ -79,16 +77,13 @@ receive_cells span None = []
 receive_cells span (Some found) = stored_cells span found.message
 
 abbrev pub status_by : Option Match → Option Op → Status
-status_by found None = empty_status
-status_by found (Some (op.Compute kernel dst left right value step)) = empty_status
-status_by found (Some (op.Post how span whom tag comm status)) = if is_receive how then receive_status span whom found else empty_status
-status_by found (Some (op.Await later handles status)) = empty_status
+status_by found operation =
+    by_parts_of empty_status (λ posted. if is_receive posted.how then receive_status posted.span posted.peer found else empty_status) (λ waited. empty_status)
+    operation
 
 abbrev pub cells_by : Option Match → Option Op → List ℤ
-cells_by found None = []
-cells_by found (Some (op.Compute kernel dst left right value step)) = []
-cells_by found (Some (op.Post how span whom tag comm status)) = if is_receive how then receive_cells span found else []
-cells_by found (Some (op.Await later handles status)) = []
+cells_by found operation =
+    by_parts_of [] (λ posted. if is_receive posted.how then receive_cells posted.span found else []) (λ waited. []) operation
 
 -- the status of a complete request (MPI 4.0, 3.2.5, 3.7.3 and 3.11)
 unfoldable pub request_status : Program → Exchange → ReqNo → Status

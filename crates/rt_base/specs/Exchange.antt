@@ -8,13 +8,13 @@ use Rattle.rt_base.specs.declared.data.Peer.TheVariants as peer
 use Rattle.rt_base.specs.declared.data.TagSel.{TagSel}
 use Rattle.rt_base.specs.declared.data.TagSel.TheVariants as tag
 use Rattle.rt_base.specs.declared.data.Op.{Op}
-use Rattle.rt_base.specs.declared.data.Op.TheVariants as op
 use Rattle.rt_base.specs.declared.data.TaskDef.{TaskDef}
 use Rattle.rt_base.specs.declared.data.Program.{Program}
-use Rattle.rt_base.specs.Operations.{posting_of}
+use Rattle.rt_base.specs.Operations.{posting_of, posting_parts, given}
 use Rattle.rt_base.specs.Matching.{Message, Receive, is_match}
 
--- the mailbox of a rank: its unmatched messages and its unmatched receives, both in the order of posting (MPI 4.0, 3.5)
+-- the mailbox of a rank: its unmatched messages and its unmatched receives, both in the order of posting (MPI 4.0, 3.5, orders
+-- the messages of one sender; that those of different senders stand in the order of their posting too is this project's)
 pub record Mailbox : Type 0 where
   pub messages : List Message
   pub receives : List Receive
@@ -79,9 +79,8 @@ posting_by how.Irecv req rank whom selected comm cells = asked_by req rank whom 
 
 -- what an operation of a task of this rank posts, with the cells that a send takes now
 abbrev pub posted_by : ReqNo → ℕ → List ℤ → Op → Posting
-posted_by req rank cells (op.Compute kernel dst left right value step) = Nowhere
-posted_by req rank cells (op.Post kind span whom selected comm status) = posting_by kind req rank whom selected comm cells
-posted_by req rank cells (op.Await later handles status) = Nowhere
+posted_by req rank cells operation =
+    given Nowhere (λ parts. posting_by parts.how req rank parts.peer parts.tag parts.comm cells) (posting_parts operation)
 
 abbrev pub posting_or_nowhere : ReqNo → ℕ → List ℤ → Option Op → Posting
 posting_or_nowhere req rank cells None = Nowhere

@@ -1,5 +1,5 @@
 -- Where the cells of all arrays of all ranks lie in one list.
-use Rattle.std.specs.Prelude.{ℕ, ◌+◌, ◌*◌, length, take, sum, slice_index}
+use Rattle.std.specs.Prelude.{ℕ, ◌+◌, ◌*◌, List, [], ◌∷◌, length, take, sum, slice_index}
 use Rattle.rt_base.specs.declared.data.Program.{Program}
 
 -- how many arrays each rank has (this project's)
@@ -21,3 +21,8 @@ address program rank array cell = sum (take (array_place program rank array) pro
 -- how many cells all arrays of all ranks have (this project's)
 abbrev pub memory_len : Program → ℕ
 memory_len program = sum program.lens.items
+
+-- where each array begins, if arrays of these lengths lie one behind another from this cell on (this project's)
+abbrev pub starts_from : ℕ → List ℕ → List ℕ
+starts_from cell [] = []
+starts_from cell (len ∷ lens) = cell ∷ starts_from (cell + len) lens

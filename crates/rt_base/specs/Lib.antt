@@ -2,6 +2,8 @@ pub mod Listing
 pub mod Spans
 pub mod Layout
 pub mod Precedes
+pub mod Limits
+pub mod KernelForms
 pub mod Operations
 pub mod Matching
 pub mod Exchange

@@ -36,7 +36,7 @@ abbrev pub names_tag : TagSel → ℕ → Bool
 names_tag (tag.Tag wanted) sent = wanted == sent
 names_tag tag.Any sent = true
 
--- the same communicator, and a source and a tag that the receive names (MPI 4.0, 3.2.4)
+-- the same communicator, and a source and a tag that the receive names (MPI 4.0, 3.2.4; communicators are in chapter 7)
 abbrev pub is_match : Receive → Message → Bool
 is_match receive message =
     (receive.comm == message.comm) && (names_source receive.source message.source && names_tag receive.tag message.tag)

@@ -53,10 +53,6 @@ is_released phase.Ended = false
 is_released phase.Returned = false
 is_released phase.Released = true
 
--- what tasks in these phases have let go of
-abbrev pub let_go_at : List Phase → LetGo
-let_go_at phases = record { released = map is_released phases }
-
 -- what the tasks have let go of
 abbrev pub let_go : List Task → LetGo
-let_go tasks = let_go_at (map (λ (task : Task). task.phase) tasks)
+let_go tasks = record { released = map (λ (task : Task). is_released task.phase) tasks }

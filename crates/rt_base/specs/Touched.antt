@@ -8,17 +8,17 @@ use Rattle.rt_base.specs.declared.data.Op.TheVariants as op
 use Rattle.rt_base.specs.Spans.{is_written}
 use Rattle.rt_base.specs.Operations.{is_receive}
 
--- the spans that an operation reads: the sources of a kernel, and what a send takes (MPI 4.0, 3.2.2)
-abbrev pub reads : Op → List Span
-reads (op.Compute kernel dst left right value step) = option_to_list left ++ option_to_list right
-reads (op.Post how span whom tag comm status) = if is_receive how then [] else span ∷ []
-reads (op.Await later handles status) = []
+-- the spans that an operation of a task with these accesses reads: the sources of a kernel, and what a send takes (MPI 4.0, 3.2.2)
+abbrev pub reads : List Access → Op → List Span
+reads accesses (op.Compute kernel dst left right value step) = option_to_list left ++ option_to_list right
+reads accesses (op.Post how span whom tag comm status) = if is_receive how then [] else span ∷ []
+reads accesses (op.Await later handles status) = []
 
--- the spans that an operation writes: the destination of a kernel, what a receive fills (MPI 4.0, 3.2.4), and its status
-abbrev pub writes : Op → List Span
-writes (op.Compute kernel dst left right value step) = dst ∷ []
-writes (op.Post how span whom tag comm status) = (if is_receive how then span ∷ [] else []) ++ option_to_list status
-writes (op.Await later handles status) = option_to_list status
+-- the spans that it writes: the destination of a kernel, what a receive fills (MPI 4.0, 3.2.4), and its status
+abbrev pub writes : List Access → Op → List Span
+writes accesses (op.Compute kernel dst left right value step) = dst ∷ []
+writes accesses (op.Post how span whom tag comm status) = (if is_receive how then span ∷ [] else []) ++ option_to_list status
+writes accesses (op.Await later handles status) = option_to_list status
 
 -- the cell of this number lies in the span
 abbrev pub has_cell : ℕ → ℕ → Span → Bool

@@ -1,5 +1,5 @@
 -- What holds of every program that is run: all that the language asks of it. The limits are this project's own.
-use Rattle.std.specs.Prelude.{◌≡◌, ◌≢◌, ℕ, ◌+◌, ◌*◌, ◌^◌, ◌<◌, ◌≤◌, Bool, true, false, List, [], ◌∷◌, ◌++◌, length, Contains, All, AllPairs, Any, sum, sum_by, count_by, filter, slice_index_or, ℤ, pos, ◌≤ℤ◌, Option, Some, None, ⊤, if◌then◌else◌}
+use Rattle.std.specs.Prelude.{◌≡◌, ◌≢◌, ℕ, ◌+◌, ◌*◌, ◌^◌, ◌<◌, ◌≤◌, Bool, true, false, List, [], ◌∷◌, ◌++◌, length, Contains, All, AllPairs, Any, sum, sum_by, count_by, filter, slice_index_or, ℤ, pos, ◌≤ℤ◌, Option, Some, None, IfSome, ⊤, if◌then◌else◌}
 use Rattle.std.specs.List.{list_any}
 use Rattle.rt_base.specs.declared.data.Span.{Span}
 use Rattle.rt_base.specs.declared.data.Access.{Access}
@@ -15,13 +15,15 @@ use Rattle.rt_base.specs.declared.data.Handle.{Handle}
 use Rattle.rt_base.specs.declared.data.Handle.TheVariants as handle
 use Rattle.rt_base.specs.declared.data.Op.{Op}
 use Rattle.rt_base.specs.declared.data.Op.TheVariants as op
+use Rattle.rt_base.specs.declared.data.LimitName.TheVariants as limit
 use Rattle.rt_base.specs.declared.data.TaskDef.{TaskDef}
 use Rattle.rt_base.specs.declared.data.Program.{Program}
 use Rattle.rt_base.specs.Spans.{span_len, Covers, Overlaps, is_written}
-use Rattle.rt_base.specs.Layout.{array_count, array_len, memory_len}
-use Rattle.rt_base.specs.Operations.{postings, is_receive}
+use Rattle.rt_base.specs.Layout.{array_count, array_len, memory_len, starts_from}
+use Rattle.rt_base.specs.Operations.{postings, is_receive, posting_parts, wait_parts, given}
 use Rattle.rt_base.specs.InUse.{left_after, is_in_use}
 use Rattle.rt_base.specs.Pieces.{pieces}
+use Rattle.rt_base.specs.Limits.{most}
 
 -- the bounds are in order, and a span that isn't empty lies in an array of the rank
 pub record IsSpan (program : Program) (rank : ℕ) (span : Span) : Type 0 where
@@ -143,15 +145,14 @@ NamesOther handle.Null other = ⊤
 NamesOther (handle.Nth n) handle.Null = ⊤
 NamesOther (handle.Nth n) (handle.Nth m) = n ≢ m
 
+-- each handle of a wait names an open request, and each another one
 abbrev pub NamesOpen : List Op → Op → Type 0
-NamesOpen earlier (op.Compute kind dst left right value step) = ⊤
-NamesOpen earlier (op.Post kind span whom selected comm status) = ⊤
-NamesOpen earlier (op.Await later handles status) = All (IsOpen earlier) handles.items × AllPairs NamesOther handles.items
+NamesOpen earlier operation = IfSome (wait_parts operation) (λ waited. All (IsOpen earlier) waited.handles × AllPairs NamesOther waited.handles)
 
--- the operation may follow these of its body: its handles name open requests, each once, and it touches no cell in use
-pub record Follows (earlier : List Op) (operation : Op) : Type 0 where
+-- the operation may follow these of the body of a task with these accesses: its handles name open requests, each once, and it touches no cell in use
+pub record Follows (accesses : List Access) (earlier : List Op) (operation : Op) : Type 0 where
   pub handles : NamesOpen earlier operation
-  pub free : is_in_use earlier operation ≡ false
+  pub free : is_in_use accesses earlier operation ≡ false
 
 -- a task: its rank exists, its regions lie in arrays and share no cell, its operations may stand there and follow one another,
 -- and each request that the posting itself didn't wait for is named by a wait
@@ -160,20 +161,16 @@ pub record IsTask (program : Program) (task : TaskDef) : Type 0 where
   pub regions : All (λ (access : Access). IsSpan program task.rank access.span) task.accesses.items
   pub apart : AllPairs (λ (one other : Access). ¬ Overlaps one.span other.span) task.accesses.items
   pub body : All (IsOperation program task) task.body.items
-  pub follows : (earlier later : List Op) (operation : Op) → task.body.items ≡ earlier ++ operation ∷ later → Follows earlier operation
+  pub follows : (earlier later : List Op) (operation : Op) → task.body.items ≡ earlier ++ operation ∷ later → Follows task.accesses.items earlier operation
   pub none_left : left_after 0 task.body.items ≡ []
 
 -- the cells that an operation sends
 abbrev pub cells_sent : Op → ℕ
-cells_sent (op.Compute kind dst left right value step) = 0
-cells_sent (op.Post kind span whom selected comm status) = if is_receive kind then 0 else span_len span
-cells_sent (op.Await later handles status) = 0
+cells_sent operation = given 0 (λ posted. if is_receive posted.how then 0 else span_len posted.span) (posting_parts operation)
 
 -- the handles that an operation names
 abbrev pub names_of : Op → ℕ
-names_of (op.Compute kind dst left right value step) = 0
-names_of (op.Post kind span whom selected comm status) = 0
-names_of (op.Await later handles status) = length handles.items
+names_of operation = given 0 (λ waited. length waited.handles) (wait_parts operation)
 
 -- the sum over all operations of all tasks
 abbrev pub over_operations : (Op → ℕ) → List TaskDef → ℕ
@@ -193,19 +190,20 @@ pub record WellFormed (program : Program) : Type 0 where
   pub ranks : program.ranks ≤ 64
   pub eager : program.eager ≤ 16777216
   pub comms : 1 ≤ program.comms
-  pub few_comms : program.comms ≤ 256
-  pub arrays : array_count program ≤ 1024
+  pub few_comms : program.comms ≤ most limit.Comms
+  pub arrays : array_count program ≤ most limit.Arrays
   pub lens : length program.lens.items ≡ program.ranks * array_count program
-  pub cells : memory_len program ≤ 16777216
+  pub starts : program.starts.items ≡ starts_from 0 program.lens.items
+  pub cells : memory_len program ≤ most limit.Cells
   pub shows : All (λ array. array < array_count program) program.shows.items
   pub shown_once : AllPairs (λ one other. one ≢ other) program.shows.items
-  pub task_count : length program.tasks.items ≤ 65536
-  pub access_count : sum_by (λ (task : TaskDef). length task.accesses.items) program.tasks.items ≤ 4194304
-  pub access_cells : sum_by region_cells program.tasks.items ≤ 134217728
-  pub operations : sum_by (λ (task : TaskDef). length task.body.items) program.tasks.items ≤ 1048576
-  pub requests : sum_by (λ (task : TaskDef). postings task.body.items) program.tasks.items ≤ 262144
-  pub handles : over_operations names_of program.tasks.items ≤ 1048576
-  pub message_cells : over_operations cells_sent program.tasks.items ≤ 67108864
-  pub few_pieces : pieces program.tasks.items ≤ 16777216
+  pub task_count : length program.tasks.items ≤ most limit.Tasks
+  pub access_count : sum_by (λ (task : TaskDef). length task.accesses.items) program.tasks.items ≤ most limit.Accesses
+  pub access_cells : sum_by region_cells program.tasks.items ≤ most limit.AccessCells
+  pub operations : sum_by (λ (task : TaskDef). length task.body.items) program.tasks.items ≤ most limit.Operations
+  pub requests : sum_by (λ (task : TaskDef). postings task.body.items) program.tasks.items ≤ most limit.Requests
+  pub handles : over_operations names_of program.tasks.items ≤ most limit.Names
+  pub message_cells : over_operations cells_sent program.tasks.items ≤ most limit.MessageCells
+  pub few_pieces : pieces program.tasks.items ≤ most limit.Pieces
   pub order : AllPairs InOrder program.tasks.items
   pub tasks : All (IsTask program) program.tasks.items

@@ -143,6 +143,9 @@ pub type Names = Listed<Name>;
 /// The length of array `a` of rank `r`, at place `r` times the number of arrays plus `a`.
 pub type Lens = Listed<u32>;
 
+/// The cell at which each array begins, where all arrays lie one behind another, at the places of `Lens`.
+pub type Starts = Listed<u32>;
+
 /// The numbers of the shown arrays, in order.
 pub type Shows = Listed<u16>;
 
@@ -158,12 +161,14 @@ pub struct Program {
     pub comms: u16,
     pub names: Names,
     pub lens: Lens,
+    /// The table of where each array begins, made once from `lens` by `starts_of`.
+    pub starts: Starts,
     pub shows: Shows,
     pub tasks: Tasks,
 }
 
-/// What became of a request: source, tag, number of cells stored, and 1 where the message was longer than the span, else 0 (MPI 4.0, 3.2.5).
-/// -1 stands for any source or tag, and -2 for the null process.
+/// What became of a request: source, tag, number of cells stored, and error (MPI 4.0, 3.2.5). The numbers are this project's: -1 stands for any
+/// source or tag, -2 for the null process, and the error is 1 where the message was longer than the span, else 0.
 #[derive(Clone, Copy, Debug, PartialEq, Eq)]
 pub struct Status {
     pub source: i32,

@@ -3,6 +3,8 @@
 
 mod adapters;
 mod data;
+mod kinds;
+mod layout;
 mod listed;
 mod memory;
 mod name;
@@ -12,8 +14,9 @@ pub use adapters::{StdinSource, StdoutSink};
 pub use data::{
     Access, Accesses, Body, Cells, Entries, Entry, FaultKind, Handle, Handles, History, How,
     Kernel, Lens, LimitName, Mode, Names, Op, Peer, Phase, Phases, Program, ReqNo, Shows, Span,
-    Status, Statuses, TagSel, TaskDef, TaskNo, Tasks,
+    Starts, Status, Statuses, TagSel, TaskDef, TaskNo, Tasks,
 };
+pub use layout::starts_of;
 pub use listed::Listed;
 pub use memory::{FakeSink, FakeSource, MemSink, MemSource};
 pub use name::Name;

@@ -12,7 +12,7 @@ use Rattle.task_tree.specs.Blocks.{Block, written}
 use Rattle.task_tree.specs.Laws.{OneTextInBlocks}
 use Rattle.task_unroll.specs.declared.refusal.ExpandRefusal.{ExpandRefusal}
 use Rattle.task_unroll.specs.declared.refusal.ExpandRefusal.TheVariants as unrolling
-use Rattle.core_book.specs.Plain.{IsPlain}
+use Rattle.plain_run.specs.Plain.{IsPlain}
 use Rattle.tampi_top.specs.declared.words.Command.{Command}
 use Rattle.tampi_top.specs.declared.ending.Verdict.{Verdict}
 use Rattle.tampi_top.specs.declared.ending.Refusal.{Refusal}
@@ -49,7 +49,8 @@ one_tree law text one other here there = let e = same_outcome law text (Ok one) 
 one_unrolled : OneOutcome → OneTextInBlocks → (asked : Command) (text : List ℕ) (one other : Result Program ExpandRefusal)
     → Unrolls asked text one → Unrolls asked text other → one ≡ other
 one_unrolled law blocks asked text one other here there =
-    let same : here.whole ≡ there.whole = blocks here.whole there.whole (one_tree law text (written here.whole) (written there.whole) here.spelled there.spelled) in
+    let same : here.whole ≡ there.whole =
+    blocks here.whole there.whole (one_tree law text (written here.whole) (written there.whole) here.spelled there.spelled) in
     sym here.unrolled ∙ ap (λ (whole : Block). said_by whole asked) same ∙ there.unrolled
 
 -- a text that unrolls has no fault as it is read
@@ -145,13 +146,15 @@ not_too_long call asked text given long =
 same_command : (one other : Command) (words : Option Command) → words ≡ Some one → words ≡ Some other → one ≡ other
 same_command one other words here there = cc
 
-whole_text : (call : Call) (asked : Command) (text input : List ℕ) → IsGiven call asked text → IsReadWhole call.given call.left input → (text ≡ input) × (call.left ≡ Some [])
+whole_text : (call : Call) (asked : Command) (text input : List ℕ) → IsGiven call asked text → IsReadWhole call.given call.left input
+    → (text ≡ input) × (call.left ≡ Some [])
 whole_text call asked text input given whole = subst (λ (bytes : Option (List ℕ)). IsReadWhole bytes call.left input) given.told whole
 
 -- what holds of the text that was read holds of the one that was given
 of_given : (call : Call) (asked : Command) (text : List ℕ) (Holds : Command → List ℕ → Type 0) → IsGiven call asked text → IsText call Holds → Holds asked text
 of_given call asked text Holds given read =
-    let said : Holds asked read.input = subst (λ (one : Command). Holds one read.input) (same_command read.asked asked (command call.words) read.is_asked given.is_asked) read.holds in
+    let said : Holds asked read.input =
+    subst (λ (one : Command). Holds one read.input) (same_command read.asked asked (command call.words) read.is_asked given.is_asked) read.holds in
     subst (λ (bytes : List ℕ). Holds asked bytes) (sym (whole_text call asked text read.input given read.whole).0) said
 
 -- a run is of a program that the given text says
@@ -159,7 +162,8 @@ run_of_given : (call : Call) (asked : Command) (text : List ℕ) (outcome : Verd
     → IsGiven call asked text → IsRun call outcome entries statuses written → (program : Program) × IsProgramText asked text program
 run_of_given call asked text outcome entries statuses written given run =
     let said : IsProgramText asked run.input run.program =
-    subst (λ (one : Command). IsProgramText one run.input run.program) (same_command run.asked asked (command call.words) run.is_asked given.is_asked) run.accepted in
+    subst (λ (one : Command). IsProgramText one run.input run.program) (same_command run.asked asked (command call.words) run.is_asked given.is_asked)
+    run.accepted in
     (run.program, subst (λ (bytes : List ℕ). IsProgramText asked bytes run.program) (sym (whole_text call asked text run.input given run.whole).0) said)
 
 -- words that give a command are not refused

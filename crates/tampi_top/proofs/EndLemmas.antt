@@ -9,7 +9,7 @@ use Rattle.rt_base.specs.declared.data.Status.{Status}
 use Rattle.rt_base.specs.declared.data.Entry.{Entry}
 use Rattle.rt_base.specs.declared.data.Program.{Program}
 use Rattle.rt_base.specs.State.{State, Task, is_released}
-use Rattle.core_book.specs.Legal.{final, IsLegal, IsQuiet}
+use Rattle.task_machine.specs.Legal.{final, IsLegal, IsQuiet}
 use Rattle.tampi_top.specs.declared.ending.Verdict.{Verdict}
 use Rattle.tampi_top.specs.declared.ending.Verdict.TheVariants as verdict
 use Rattle.tampi_top.specs.Report.{is_finished, report}

@@ -8,7 +8,7 @@ use Rattle.task_parse.specs.Trees.{IsTree, IsFirstFault}
 use Rattle.task_unroll.specs.declared.refusal.ExpandRefusal.{ExpandRefusal}
 use Rattle.task_unroll.specs.declared.refusal.ExpandRefusal.TheVariants as unrolling
 use Rattle.task_unroll.specs.Ranks.{program}
-use Rattle.core_book.specs.Plain.{IsPlain}
+use Rattle.plain_run.specs.Plain.{IsPlain}
 use Rattle.tampi_top.specs.declared.words.Command.{Command}
 
 -- what unrolling gives of a text in blocks, for the command's ranks and eager limit

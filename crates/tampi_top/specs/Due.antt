@@ -6,7 +6,7 @@ use Rattle.rt_base.specs.declared.data.Entry.{Entry}
 use Rattle.rt_base.specs.declared.data.Program.{Program}
 use Rattle.rt_base.specs.Outside.{Rose}
 use Rattle.rt_base.specs.State.{State, Task}
-use Rattle.core_book.specs.Legal.{final, IsLegal, IsQuiet, IsFinished, IsStuck}
+use Rattle.task_machine.specs.Legal.{final, IsLegal, IsQuiet, IsFinished, IsStuck}
 use Rattle.tampi_top.specs.declared.words.Command.{Command}
 use Rattle.tampi_top.specs.declared.ending.Refusal.{Refusal}
 use Rattle.tampi_top.specs.declared.ending.Refusal.TheVariants as refusal

@@ -6,7 +6,7 @@ use Rattle.rt_base.specs.declared.data.FaultKind.{FaultKind}
 use Rattle.rt_base.specs.declared.data.FaultKind.TheVariants as fault
 use Rattle.rt_base.specs.declared.data.LimitName.{LimitName}
 use Rattle.rt_base.specs.declared.data.LimitName.TheVariants as limit
-use Rattle.task_unroll.specs.Counting.{most}
+use Rattle.rt_base.specs.Limits.{most}
 use Rattle.tampi_top.specs.declared.ending.Refusal.{Refusal}
 use Rattle.tampi_top.specs.declared.ending.Refusal.TheVariants as refusal
 use Rattle.tampi_top.specs.declared.ending.Verdict.{Verdict}

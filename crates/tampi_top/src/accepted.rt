@@ -3,7 +3,7 @@ ghost use Rattle.std.specs.Prelude.{◌≡◌, ◌≤◌, length, IfOk};
 ghost use Rattle.rt_base.specs.declared.data.Program.{Program};
 ghost use Rattle.rt_base.specs.WellFormed.{WellFormed};
 ghost use Rattle.task_tree.specs.Blocks.{Block, Top, written, Nested};
-ghost use Rattle.core_book.specs.Plain.{IsPlain};
+ghost use Rattle.plain_run.specs.Plain.{IsPlain};
 ghost use Rattle.tampi_top.specs.Whys.{IsFoundOf, IsFound};
 ghost use Rattle.tampi_top.specs.Settings.{IsInRange};
 

@@ -1,31 +1,16 @@
 //! Whether a program can be run today.
 ghost use Rattle.std.specs.Prelude.{◌≡◌, ◌↔◌, IsTrue, All};
 ghost use Rattle.rt_base.specs.declared.data.TaskDef.{TaskDef};
-ghost use Rattle.rt_base.specs.Operations.{blocks};
-ghost use Rattle.core_book.specs.Plain.{IsPlainOperation, IsPlain};
+ghost use Rattle.plain_run.specs.Plain.{IsPlainOperation, IsPlain};
 
-use rt_base::{How, Op, Program};
-
-// Whether the posting is a call that blocks.
-fn blocks(how: How) -> bool
-    ensures { result ≡ blocks how }
-{
-    match how {
-        How::Send => true,
-        How::Ssend => true,
-        How::Recv => true,
-        How::Isend => false,
-        How::Issend => false,
-        How::Irecv => false,
-    }
-}
+use rt_base::{Op, Program};
 
 fn is_plain_operation(operation: &Op) -> bool
     ensures { IsTrue result ↔ IsPlainOperation operation.now }
 {
     match operation {
         Op::Compute { .. } => true,
-        Op::Post { how, .. } => blocks(*how),
+        Op::Post { how, .. } => how.blocks(),
         Op::Await { .. } => false,
     }
 }

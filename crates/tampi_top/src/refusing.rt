@@ -1,6 +1,6 @@
 //! The one line of a call that runs nothing.
 ghost use Rattle.std.specs.Prelude.{◌≡◌, ◌++◌, IfOk, OnOk};
-ghost use Rattle.task_unroll.specs.Counting.{most};
+ghost use Rattle.rt_base.specs.Limits.{most};
 ghost use Rattle.tampi_top.specs.Ending.{kind_text, fault_text, limit_name, limit_text, refusal_text};
 
 use crate::ending::Refusal;
@@ -80,26 +80,6 @@ fn limit_name(which: LimitName) -> &'static str
     }
 }
 
-// The number of a limit.
-fn limit_number(which: LimitName) -> u32
-    ensures { result ≡ most which }
-{
-    match which {
-        LimitName::Arrays => 1_024,
-        LimitName::Comms => 256,
-        LimitName::Cells => 16_777_216,
-        LimitName::Tasks => 65_536,
-        LimitName::Accesses => 4_194_304,
-        LimitName::AccessCells => 134_217_728,
-        LimitName::Operations => 1_048_576,
-        LimitName::Requests => 262_144,
-        LimitName::Names => 1_048_576,
-        LimitName::MessageCells => 67_108_864,
-        LimitName::Steps => 16_777_216,
-        LimitName::Pieces => 16_777_216,
-    }
-}
-
 // Puts the line of a limit behind the text.
 fn put_limit(alloc: Global, text: &mut Vec<u8>, which: LimitName) -> Result<(), AllocError>
     ensures { OnOk result (text.new.items ≡ text.old.items ++ limit_text which) }
@@ -107,7 +87,7 @@ fn put_limit(alloc: Global, text: &mut Vec<u8>, which: LimitName) -> Result<(), 
     put(text, "limit ")?;
     put(text, limit_name(which))?;
     put(text, " ")?;
-    put_number(alloc, text, limit_number(which))?;
+    put_number(alloc, text, which.number())?;
     put(text, "\n")
 }
 

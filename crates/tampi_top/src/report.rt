@@ -1,5 +1,5 @@
 //! The report of a run.
-ghost use Rattle.std.specs.Prelude.{◌≡◌, ◌+◌, ◌++◌, ◌∷◌, [], ◌<◌, ◌≤◌, ℕ, length, map, sum, take, drop, slice_get, slice_index, ◌^◌, OnOk, IfOk, Some, codes};
+ghost use Rattle.std.specs.Prelude.{◌≡◌, ◌+◌, ◌++◌, ◌∷◌, [], ◌<◌, ◌≤◌, ℕ, length, map, take, drop, slice_get, slice_index, ◌^◌, OnOk, IfOk, Some, codes};
 ghost use Rattle.std.specs.List.{flat_map};
 ghost use Rattle.std.specs.Fmt.{decimal};
 ghost use Rattle.rt_base.specs.Layout.{array_count, array_len, address, memory_len};
@@ -143,14 +143,6 @@ pub fn all_released(phases: &[Phase]) -> bool
     phases.iter().all(|at| is_released(*at))
 }
 
-// How many cells the arrays of these lengths have.
-fn total(lens: &[u32]) -> usize
-    requires { sum lens.now < 2 ^ 64 }
-    ensures { result ≡ sum lens.now }
-{
-    lens.iter().map(|len| *len as usize).sum()
-}
-
 // So many cells from this place on, as far as there are any.
 fn cells_from(memory: &[i64], from: usize, len: usize) -> &[i64]
     ensures { result.now ≡ take len (drop from memory.now) }
@@ -175,9 +167,9 @@ fn put_shown(
     ensures { OnOk result (text.new.items ≡ text.old.items ++ shown_line program.now memory.now rank array) }
 {
     let place = usize::from(rank) * program.names.len() + usize::from(array);
-    let lens = program.lens.as_slice();
-    let from = total(&lens[..place]);
-    let cells = cells_from(memory, from, lens[place] as usize);
+    let len = program.lens.as_slice()[place];
+    let from = program.start_of(rank, array);
+    let cells = cells_from(memory, from as usize, len as usize);
     let name = program.names.as_slice()[usize::from(array)].as_slice();
     put_array(alloc, text, rank, name, cells)
 }

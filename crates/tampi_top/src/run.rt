@@ -1,13 +1,13 @@
 //! A run of a program, and its report.
 ghost use Rattle.std.specs.Prelude.{◌≡◌, IfOk};
 ghost use Rattle.rt_base.specs.WellFormed.{WellFormed};
-ghost use Rattle.core_book.specs.Plain.{IsPlain};
+ghost use Rattle.plain_run.specs.Plain.{IsPlain};
 ghost use Rattle.tampi_top.specs.Ending.{verdict_of};
 ghost use Rattle.tampi_top.specs.Due.{IsRunOf};
 
 use crate::ending::Verdict;
 use crate::report::{all_released, report_of};
-use core_book::run_plainly;
+use plain_run::run_plainly;
 use rt_base::{History, Phase, Program};
 use std::alloc::{AllocError, Global};
 

@@ -86,7 +86,8 @@ op_on rank line handles operation s on =
     holds_weaker (λ (u : State). (u ≡ at_done operation s) × Tested handles operation s) (OnRank rank) (op_done line handles operation s)
     (λ u after. rw after.0 on) (op_done_leaves line handles operation s)
 
-kernel_on : (rank line : ℕ) (kind : Kernel) (texts : List SpanText) (terms : List Term) (s : State) → OnRank rank s → Holds (OnRank rank) (kernel_done line kind texts terms s)
+kernel_on : (rank line : ℕ) (kind : Kernel) (texts : List SpanText) (terms : List Term) (s : State) → OnRank rank s
+    → Holds (OnRank rank) (kernel_done line kind texts terms s)
 unfolding kernel_done
 kernel_on rank line kind texts terms s on = bind_operated (OnRank rank) 0 0 s _ (λ n counted.
     bind_at (OnRank rank) line (spans_of (at_operation n 0 0 s) texts) _ (λ spans spans_is.
@@ -94,7 +95,8 @@ kernel_on rank line kind texts terms s on = bind_operated (OnRank rank) 0 0 s _ 
     bind_at (OnRank rank) line (kernel_call kind spans numbers) _ (λ operation operation_is.
     op_on rank line no_handle operation (at_operation n 0 0 s) on))))
 
-call_on : (rank line : ℕ) (call : How) (handle : Option (List ℕ)) (text : SpanText) (to : PeerText) (number : TagText) (comm : Option (List ℕ)) (status : Option SpanText) (s : State)
+call_on : (rank line : ℕ) (call : How) (handle : Option (List ℕ)) (text : SpanText) (to : PeerText) (number : TagText) (comm : Option (List ℕ))
+    (status : Option SpanText) (s : State)
     → OnRank rank s → Holds (OnRank rank) (call_done line call handle text to number comm status s)
 unfolding call_done
 call_on rank line call handle text to number comm status s on =
@@ -112,7 +114,8 @@ call_on rank line call handle text to number comm status s on =
     bind_by (OnRank rank) (OnRank rank) (op_done line (handle_check t handle) (op.Post call span peer tag world cells) t) _
     (op_on rank line (handle_check t handle) (op.Post call span peer tag world cells) t on) (λ u after. after)))))))))))
 
-wait_on : (rank line : ℕ) (later : Bool) (handles : List (List ℕ)) (status : Option SpanText) (s : State) → OnRank rank s → Holds (OnRank rank) (wait_done line later handles status s)
+wait_on : (rank line : ℕ) (later : Bool) (handles : List (List ℕ)) (status : Option SpanText) (s : State) → OnRank rank s
+    → Holds (OnRank rank) (wait_done line later handles status s)
 unfolding wait_done
 wait_on rank line later handles status s on = bind_operated (OnRank rank) 0 (length handles) s _ (λ n counted.
     let t = at_operation n 0 (length handles) s in
@@ -145,7 +148,8 @@ act_on rank line (what.Waiting later handles status) s on = wait_on rank line la
 accesses_on : (rank : ℕ) (accesses : List AccessLine) (s : State) → OnRank rank s → Holds (OnRank rank) (accesses_made accesses s)
 accesses_on rank [] s on = on
 accesses_on rank (access ∷ more) s on =
-    bind_by (OnRank rank) (OnRank rank) (access_made access.line access.mode access.span s) (accesses_made more) (access_on rank access.line access.mode access.span s on)
+    bind_by (OnRank rank) (OnRank rank) (access_made access.line access.mode access.span s) (accesses_made more)
+    (access_on rank access.line access.mode access.span s on)
     (λ t after. accesses_on rank more t after)
 
 pub rank_kept : (rank : ℕ) (b : Block) (s : State) → OnRank rank s → Holds (OnRank rank) (unrolled b s)

@@ -14,9 +14,6 @@ use std::alloc::Global;
 use task_tree::Tree;
 use task_unroll::{ExpandRefusal, ends_of};
 
-// The most pairs of an access and an elementary segment inside it.
-const MOST_PIECES: u64 = 16_777_216;
-
 /// The program of a text, for so many ranks and this eager limit in cells: every rank runs the same text, rank after rank.
 ///
 /// Errors: the first fault or limit that unrolling meets, or want of memory.
@@ -35,10 +32,10 @@ pub fn expand(alloc: Global, tree: &Tree, ranks: u16, eager: u32) -> Result<Prog
         Ok(all) => all,
         Err(refusal) => return Err(refusal),
     };
-    if !pieces_within(alloc, all.tasks(), MOST_PIECES)? {
+    if !pieces_within(alloc, all.tasks(), LimitName::Pieces.number() as u64)? {
         return Err(ExpandRefusal::Limit {
             which: LimitName::Pieces,
         });
     }
-    Ok(all.into_program(eager))
+    Ok(all.into_program(alloc, eager)?)
 }

@@ -1,6 +1,6 @@
 //! The ranks of a text, unrolled one after the other.
 
-ghost use Rattle.std.specs.Prelude.{◌≡◌, ◌+◌, ◌-◌, ◌≤◌};
+ghost use Rattle.std.specs.Prelude.{◌≡◌, ◌+◌, ◌-◌, ◌*◌, ◌^◌, ◌<◌, ◌≤◌, sum, IfOk, OnOk};
 ghost use Rattle.rt_base.specs.declared.data.Program.{Program};
 ghost use Rattle.task_tree.specs.Blocks.{Block, written};
 ghost use Rattle.task_unroll.specs.Unrolling.{Gives};
@@ -8,8 +8,8 @@ ghost use Rattle.task_unroll.specs.Ends.{AreEnds};
 ghost use Rattle.task_unroll.specs.Ranks.{next_rank, first_rank, program_of};
 ghost use Rattle.task_expand.specs.Ranks.{ranks_up_to};
 
-use rt_base::{Program, TaskDef};
-use std::alloc::Global;
+use rt_base::{Program, TaskDef, starts_of};
+use std::alloc::{AllocError, Global};
 use std::marker::Model;
 use task_tree::Stmt;
 use task_unroll::{Ends, ExpandRefusal, State, unroll};
@@ -33,7 +33,8 @@ impl Ranks {
     // Rank 0 of so many.
     fn first(alloc: Global, stmts: &[Stmt], ends: &Ends, size: u16) -> Result<Ranks, ExpandRefusal>
         requires ends { AreEnds stmts.now ends.now }
-        ensures { (whole : Block) → written whole ≡ stmts.now → Gives (λ r. r) result (first_rank whole size) }
+        ensures first { (whole : Block) → written whole ≡ stmts.now → Gives (λ r. r) result (first_rank whole size) }
+        ensures cells { IfOk result (λ r. sum r.lens ≤ 16777216) }
     {
         let mut last = State::first(alloc, size);
         match unroll(alloc, stmts, ends, &mut last) {
@@ -46,6 +47,7 @@ impl Ranks {
     }
 
     // One rank more, which has this number.
+    #[tactic(auto, using(crate::proofs::RankChain::sum_more))]
     fn add(
         &mut self,
         alloc: Global,
@@ -54,7 +56,8 @@ impl Ranks {
         rank: u16,
     ) -> Result<(), ExpandRefusal>
         requires ends { AreEnds stmts.now ends.now }
-        ensures { (whole : Block) → written whole ≡ stmts.now → self.old.last.rank + 1 ≡ rank → Gives (λ _. self.new) result (next_rank whole self.old) }
+        ensures next { (whole : Block) → written whole ≡ stmts.now → self.old.last.rank + 1 ≡ rank → Gives (λ _. self.new) result (next_rank whole self.old) }
+        ensures cells { OnOk result (sum self.new.lens ≤ sum self.old.lens + 16777216) }
     {
         self.last.begin_rank(alloc, rank);
         match unroll(alloc, stmts, ends, &mut self.last) {
@@ -75,7 +78,8 @@ impl Ranks {
     ) -> Result<Ranks, ExpandRefusal>
         requires ends { AreEnds stmts.now ends.now }
         requires some_rank { 1 ≤ size }
-        ensures { (whole : Block) → written whole ≡ stmts.now → Gives (λ r. r) result (ranks_up_to whole size (size - 1)) }
+        ensures all { (whole : Block) → written whole ≡ stmts.now → Gives (λ r. r) result (ranks_up_to whole size (size - 1)) }
+        ensures cells { IfOk result (λ r. sum r.lens ≤ size * 16777216) }
     {
         match Ranks::first(alloc, stmts, ends, size) {
             Ok(mut ranks) => {
@@ -98,11 +102,13 @@ impl Ranks {
         self.last.tasks()
     }
 
-    /// The program of all ranks, for an eager limit in cells. Takes no memory.
-    pub(crate) fn into_program(self, eager: u32) -> Program
-        ensures { result ≡ program_of eager self }
+    /// The program of all ranks, for an eager limit in cells, with the table of where their arrays begin.
+    pub(crate) fn into_program(self, alloc: Global, eager: u32) -> Result<Program, AllocError>
+        requires { sum self.lens < 2 ^ 32 }
+        ensures { IfOk result (λ program. program ≡ program_of eager self) }
     {
         let Ranks { lens, last } = self;
-        last.into_program(eager, lens)
+        let starts = starts_of(alloc, &lens)?;
+        Ok(last.into_program(eager, lens, starts))
     }
 }

@@ -7,8 +7,8 @@ use Rattle.rt_base.specs.declared.data.Kernel.{Kernel}
 use Rattle.rt_base.specs.declared.data.Op.{Op}
 use Rattle.rt_base.specs.declared.data.Op.TheVariants as op
 use Rattle.rt_base.specs.declared.data.Span.{Span}
-use Rattle.rt_base.specs.declared.data.Access.{Access}
 use Rattle.rt_base.specs.Spans.{span_len}
+use Rattle.task_local.specs.declared.index.Region.{Region}
 use Rattle.task_local.specs.Regions.{spliced}
 use Rattle.task_local.specs.declared.compute.Placed.{Placed}
 use Rattle.task_local.specs.Local.{kernel_value}
@@ -41,12 +41,13 @@ written_between at count copy front back cells is_front is_back len =
     ap (λ (f : List ℤ). f ++ (cells ++ back)) is_front ∙ ap (λ (r : List ℤ). take at copy ++ (cells ++ r)) rest
 
 -- the part of a source has its cells
-source_in_part : (ordered : List Access) (copy : List ℤ) (source : Option Span)
+source_in_part : (ordered : List Region) (copy : List ℤ) (source : Option Span)
     → cells_at (source_place ordered source) (source_len source) copy ≡ source_in ordered copy source
 source_in_part ordered copy None = refl
 source_in_part ordered copy (Some span) = refl
 
-pub part_is_source : (ordered : List Access) (copy : List ℤ) (source : Option Span) (at count : ℕ) → at ≡ source_place ordered source → count ≡ source_len source
+pub part_is_source : (ordered : List Region) (copy : List ℤ) (source : Option Span) (at count : ℕ) → at ≡ source_place ordered source
+    → count ≡ source_len source
     → cells_at at count copy ≡ source_in ordered copy source
 part_is_source ordered copy source at count places counts = rw (places, counts) (source_in_part ordered copy source)
 
@@ -61,7 +62,8 @@ takes_same kind count count_is left left_is right right_is value value_is counts
 
 -- the copy after a kernel has written its cells, from the cells that it was given
 pub placed_value_is : (placed : Placed) (copy from with cells : List ℤ) (count : ℕ) (value step : ℤ) → count ≡ placed.dst.count
-    → from ≡ cells_at placed.left.at placed.left.count copy → with ≡ cells_at placed.right.at placed.right.count copy → value ≡ placed.value → step ≡ placed.step
+    → from ≡ cells_at placed.left.at placed.left.count copy → with ≡ cells_at placed.right.at placed.right.count copy → value ≡ placed.value
+    → step ≡ placed.step
     → cells ≡ kernel_value placed.kernel count from with value step → spliced placed.dst.at cells copy ≡ placed_value placed copy
 placed_value_is placed copy from with cells count value step counts is_from is_with values steps is_cells =
     ap (λ (found : List ℤ). spliced placed.dst.at found copy) cc
@@ -73,7 +75,8 @@ abbrev IsApartFrom : ℕ → ℕ → ℕ → ℕ → ℕ → ℕ → Type 0
 IsApartFrom at count left left_count right right_count = AreApart at count left left_count × AreApart at count right right_count
 
 -- one that does asks for no scratch
-pub apart_needs_none : (ordered : List Access) (kind : Kernel) (dst : Span) (left right : Option Span) (value step : ℤ) (at count from from_count with with_count : ℕ)
+pub apart_needs_none : (ordered : List Region) (kind : Kernel) (dst : Span) (left right : Option Span) (value step : ℤ)
+    (at count from from_count with with_count : ℕ)
     → at ≡ place_in ordered dst.array dst.from → count ≡ span_len dst → from ≡ source_place ordered left → from_count ≡ source_len left
     → with ≡ source_place ordered right → with_count ≡ source_len right → IsApartFrom at count from from_count with with_count
     → IsScratchFor ordered 0 (op.Compute kind dst left right value step)
@@ -83,7 +86,8 @@ apart_needs_none ordered kind dst left right value step at count from from_count
 }
 
 -- another one asks for as many cells as it has
-pub sharing_needs_all : (ordered : List Access) (kind : Kernel) (dst : Span) (left right : Option Span) (value step : ℤ) (at count from from_count with with_count : ℕ)
+pub sharing_needs_all : (ordered : List Region) (kind : Kernel) (dst : Span) (left right : Option Span) (value step : ℤ)
+    (at count from from_count with with_count : ℕ)
     → at ≡ place_in ordered dst.array dst.from → count ≡ span_len dst → from ≡ source_place ordered left → from_count ≡ source_len left
     → with ≡ source_place ordered right → with_count ≡ source_len right → ¬ IsApartFrom at count from from_count with with_count
     → IsScratchFor ordered count (op.Compute kind dst left right value step)
@@ -95,14 +99,15 @@ sharing_needs_all ordered kind dst left right value step at count from from_coun
     }
 
 -- more cells are enough too
-more_room : (ordered : List Access) (operation : Op) (scratch more : ℕ) → scratch ≤ more → HasScratchFor ordered scratch operation → HasScratchFor ordered more operation
+more_room : (ordered : List Region) (operation : Op) (scratch more : ℕ) → scratch ≤ more → HasScratchFor ordered scratch operation
+    → HasScratchFor ordered more operation
 more_room ordered (op.Compute kind dst left right value step) scratch more le (inl apart) = inl apart
 more_room ordered (op.Compute kind dst left right value step) scratch more le (inr fits) = inr (omega arith)
 more_room ordered (op.Post how span peer tag comm status) scratch more le room = tt
 more_room ordered (op.Await later handles status) scratch more le room = tt
 
 -- one more operation
-room_more : (ordered : List Access) (ops : List Op) (i scratch here more : ℕ) (operation : Op) → i < length ops → operation ≡ get_or ops i operation
+room_more : (ordered : List Region) (ops : List Op) (i scratch here more : ℕ) (operation : Op) → i < length ops → operation ≡ get_or ops i operation
     → scratch ≤ more → here ≤ more → HasRoomFor ordered (take i ops) scratch → HasScratchFor ordered here operation → HasRoomFor ordered (take (i + 1) ops) more
 room_more ordered ops i scratch here more operation within is_here le here_le before room =
     All-more (HasScratchFor ordered more) ops i operation within (λ k d inside. more_room ordered _ scratch more le (before k d inside))
@@ -118,7 +123,7 @@ last_of : (P : Op → Type 0) (ops : List Op) (i : ℕ) (d : Op) → i < length 
 last_of P ops i d within all = subst P (get_or-take (i + 1) ops i d (omega arith)) (all i d (omega (arith, length-take (i + 1) ops)))
 
 -- what the operations so far ask for, and what one more does, give what all of them ask for
-pub scratch_more : (ordered : List Access) (ops : List Op) (i scratch here more : ℕ) (operation : Op) → i < length ops → operation ≡ get_or ops i operation
+pub scratch_more : (ordered : List Region) (ops : List Op) (i scratch here more : ℕ) (operation : Op) → i < length ops → operation ≡ get_or ops i operation
     → scratch ≤ more → here ≤ more → ((other : ℕ) → scratch ≤ other → here ≤ other → more ≤ other)
     → IsScratchOf ordered (take i ops) scratch → IsScratchFor ordered here operation → IsScratchOf ordered (take (i + 1) ops) more
 scratch_more ordered ops i scratch here more operation within is_here le here_le least before own = record {

@@ -9,4 +9,4 @@ pub mod Samples
 pub mod Searches
 pub mod Fresh
 pub mod Saved
-pub mod Sums
+pub mod Rows

@@ -1,5 +1,5 @@
 -- What a program that may be run gives for a task of it.
-use Rattle.std.proofs.Common.{◌≡◌, ℕ, ◌+◌, ◌*◌, ◌<◌, ◌≤◌, true, true≢false, if◌then◌else◌, ℤ, List, [], ◌∷◌, length, get_or, drop, length-drop, All, slice_get, Option, Some, None, unwrap_or, sym, ap, ◌∙◌, refl, subst, mul_comm, mul-le-mul, arith}
+use Rattle.std.proofs.Common.{◌≡◌, ℕ, ◌+◌, ◌*◌, ◌<◌, ◌≤◌, true, true≢false, if◌then◌else◌, ℤ, List, [], ◌∷◌, length, get_or, drop, length-drop, All, slice_get, Option, Some, None, unwrap_or, sym, ap, ◌∙◌, refl, subst, mul_comm, arith}
 use Rattle.std.proofs.lemmas.Nat.{mul-add-lt}
 use Rattle.std.proofs.lemmas.Option.{get_or_from_slice_get, slice_get_within, same_Some}
 use Rattle.std.proofs.lemmas.List.Elements.{All-get_or}
@@ -17,29 +17,39 @@ use Rattle.rt_base.specs.Spans.{span_len}
 use Rattle.rt_base.specs.Operations.{is_receive}
 use Rattle.rt_base.specs.Layout.{array_count, array_place}
 use Rattle.rt_base.specs.WellFormed.{WellFormed, IsTask, IsSpan, IsOperation, IsDeclared, OfSpan, MayRead, region_cells}
+use Rattle.task_local.specs.declared.index.Region.{Region}
 use Rattle.task_local.specs.Regions.{regions, put, spliced}
 use Rattle.task_local.specs.Packed.{packed_by, packed}
 use Rattle.task_local.specs.Local.{run_front, stop_at, advanced, stop}
 use Rattle.task_local.specs.StandsFor.{Record}
 use Rattle.task_local.specs.Standing.{no_task, def_of, def, moved_on, packed_next}
-use Rattle.task_local.specs.Kept.{LiesIn, FitsSend, sent_in, place_in, CanRun, SourceFits, HasRoomFor, IsPhaseOf, HasScratchFor, cell_total}
-use Rattle.task_local.proofs.Places.{is_filled, All-regions, regions_filled, declared_fits_in, cell_total-regions}
+use Rattle.task_local.specs.Kept.{LiesIn, RegionLies, FitsSend, sent_in, place_in, CanRun, SourceFits, HasRoomFor, IsPhaseOf, HasScratchFor, cell_total}
+use Rattle.task_local.proofs.Places.{is_filled, cells_among, All-regions, regions_filled, declared_fits_in, cell_total-regions}
 use Rattle.task_local.proofs.Order.{IsLowFilled, filled_is}
 use Rattle.task_local.proofs.Kernels.{takes_cells, source_is, put_in}
 
 -- one number has one task
-pub one_task : (p q : Program) (t : ℕ) (one other : TaskDef) → p ≡ q → slice_get p.tasks.items t ≡ Some one → slice_get q.tasks.items t ≡ Some other → one ≡ other
+pub one_task : (p q : Program) (t : ℕ) (one other : TaskDef) → p ≡ q → slice_get p.tasks.items t ≡ Some one → slice_get q.tasks.items t ≡ Some other
+    → one ≡ other
 one_task p q t one other same is_one is_other = same_Some one other (sym is_one ∙ ap (λ (r : Program). slice_get r.tasks.items t) same ∙ is_other)
 
 pub task_is : (p : Program) (t : ℕ) (task : TaskDef) → WellFormed p → slice_get p.tasks.items t ≡ Some task → IsTask p task
-task_is p t task well is = subst (IsTask p) (get_or_from_slice_get p.tasks.items t task task is) (All-get_or (IsTask p) p.tasks.items t task (slice_get_within p.tasks.items t task is) well.tasks)
+task_is p t task well is = subst (IsTask p) (get_or_from_slice_get p.tasks.items t task task is)
+    (All-get_or (IsTask p) p.tasks.items t task (slice_get_within p.tasks.items t task is) well.tasks)
 
-pub few_cells : (p : Program) (t : ℕ) (task : TaskDef) → WellFormed p → slice_get p.tasks.items t ≡ Some task → cell_total task.accesses.items ≤ 134217728
+pub few_cells : (p : Program) (t : ℕ) (task : TaskDef) → WellFormed p → slice_get p.tasks.items t ≡ Some task → cells_among task.accesses.items ≤ 134217728
 few_cells p t task well is =
     let here = get_or_from_slice_get p.tasks.items t task task is in
     let within = get_or-le-sum_by region_cells p.tasks.items t task (slice_get_within p.tasks.items t task is) in
     let e = ap region_cells here in
     omega (arith, well.access_cells)
+
+pub few_accesses : (p : Program) (t : ℕ) (task : TaskDef) → WellFormed p → slice_get p.tasks.items t ≡ Some task → length task.accesses.items ≤ 4194304
+few_accesses p t task well is =
+    let here = get_or_from_slice_get p.tasks.items t task task is in
+    let within = get_or-le-sum_by (λ (def : TaskDef). length def.accesses.items) p.tasks.items t task (slice_get_within p.tasks.items t task is) in
+    let e = ap (λ (def : TaskDef). length def.accesses.items) here in
+    omega (arith, well.access_count)
 
 pub few_operations : (p : Program) (t : ℕ) (task : TaskDef) → WellFormed p → slice_get p.tasks.items t ≡ Some task → length task.body.items ≤ 1048576
 few_operations p t task well is =
@@ -49,7 +59,8 @@ few_operations p t task well is =
     omega (arith, well.operations)
 
 -- a region that isn't empty lies in the memory
-pub lies_in : (p : Program) (rank : ℕ) (access : Access) → WellFormed p → rank < p.ranks → IsSpan p rank access.span → is_filled access ≡ true → LiesIn p rank access
+pub lies_in : (p : Program) (rank : ℕ) (access : Access) → WellFormed p → rank < p.ranks → IsSpan p rank access.span → is_filled access ≡ true
+    → LiesIn p rank access
 lies_in p rank access well exists span filled =
     let fills : access.span.from < access.span.to = filled_is access filled in
     let array : access.span.array < array_count p = span.array fills in
@@ -57,14 +68,13 @@ lies_in p rank access well exists span filled =
     let within : rank * array_count p + access.span.array < array_count p * p.ranks = mul-add-lt rank (array_count p) access.span.array p.ranks exists array in
     let lens : length p.lens.items ≡ p.ranks * array_count p = well.lens in
     let other_way : array_count p * p.ranks ≡ p.ranks * array_count p = mul_comm (array_count p) p.ranks in
-    let most : p.ranks * array_count p ≤ 64 * 1024 = mul-le-mul well.ranks well.arrays in
     let place_within : array_place p rank access.span.array < length p.lens.items = omega arith in
     let sums = sum_by_more_le (λ (x : ℕ). x) p.lens.items (array_place p rank access.span.array) 0 place_within in
-    record { array = omega arith; inside = omega arith; few = omega arith; small = well.cells }
+    record { array = place_within; inside = omega arith; small = well.cells; starts = well.starts }
 
-pub regions_lie : (p : Program) (task : TaskDef) → WellFormed p → IsTask p task → All (LiesIn p task.rank) (regions task.accesses.items)
+pub regions_lie : (p : Program) (task : TaskDef) → WellFormed p → IsTask p task → All (RegionLies p task.rank) (regions task.accesses.items)
 regions_lie p task well is = λ k d within.
-    lies_in p task.rank (get_or (regions task.accesses.items) k d) well is.rank
+    lies_in p task.rank (get_or (regions task.accesses.items) k d).access well is.rank
     (All-regions (λ (access : Access). IsSpan p task.rank access.span) task.accesses.items is.regions k d within)
     (regions_filled task.accesses.items k d within)
 
@@ -76,12 +86,13 @@ filled_low p task well is = λ k d within filled.
 -- ---- what a local operation needs
 
 source_fits : (p : Program) (task : TaskDef) (source : Option Span) → OfSpan (MayRead p task) source
-    → SourceFits (regions task.accesses.items) (cell_total task.accesses.items) source
+    → SourceFits (regions task.accesses.items) (cells_among task.accesses.items) source
 source_fits p task None may = tt
 source_fits p task (Some span) may = declared_fits_in task.accesses.items span may.declared
 
-can_run : (p : Program) (task : TaskDef) (scratch : ℕ) (operation : Op) → IsOperation p task operation → HasScratchFor (regions task.accesses.items) scratch operation
-    → CanRun (regions task.accesses.items) (cell_total task.accesses.items) scratch operation
+can_run : (p : Program) (task : TaskDef) (scratch : ℕ) (operation : Op) → IsOperation p task operation
+    → HasScratchFor (regions task.accesses.items) scratch operation
+    → CanRun (regions task.accesses.items) (cells_among task.accesses.items) scratch operation
 can_run p task scratch (op.Compute kind dst left right value step) is room = record {
   room = room;
   dst_fits = declared_fits_in task.accesses.items dst is.0.declared;
@@ -92,37 +103,38 @@ can_run p task scratch (op.Compute kind dst left right value step) is room = rec
 can_run p task scratch (op.Post how span peer tag comm status) is room = tt
 can_run p task scratch (op.Await later handles status) is room = tt
 
-pub body_can_run : (p : Program) (task : TaskDef) (ordered : List Access) (copy scratch : ℕ) → IsTask p task → ordered ≡ regions task.accesses.items
-    → copy ≡ cell_total task.accesses.items → HasRoomFor ordered task.body.items scratch → All (CanRun ordered copy scratch) task.body.items
+pub body_can_run : (p : Program) (task : TaskDef) (ordered : List Region) (copy scratch : ℕ) → IsTask p task → ordered ≡ regions task.accesses.items
+    → copy ≡ cells_among task.accesses.items → HasRoomFor ordered task.body.items scratch → All (CanRun ordered copy scratch) task.body.items
 body_can_run p task ordered copy scratch is order cells room = λ k d within.
     rw (order, cells) (can_run p task scratch (get_or task.body.items k d) (is.body k d within) (rw order at (room k d within)))
 
 -- ---- what the fields of a record give
 
 -- its regions lie in the memory
-pub record_lies : (p q : Program) (t : ℕ) (def task : TaskDef) (ordered : List Access) → WellFormed p → p ≡ q
-    → slice_get p.tasks.items t ≡ Some def → slice_get q.tasks.items t ≡ Some task → ordered ≡ regions task.accesses.items → All (LiesIn p def.rank) ordered
+pub record_lies : (p q : Program) (t : ℕ) (def task : TaskDef) (ordered : List Region) → WellFormed p → p ≡ q
+    → slice_get p.tasks.items t ≡ Some def → slice_get q.tasks.items t ≡ Some task → ordered ≡ regions task.accesses.items → All (RegionLies p def.rank) ordered
 record_lies p q t def task ordered well same is_def is_task order =
     let one = one_task p q t def task same is_def is_task in
     let order_def : regions def.accesses.items ≡ ordered = ap (λ (d : TaskDef). regions d.accesses.items) one ∙ sym order in
-    subst (All (LiesIn p def.rank)) order_def (regions_lie p def well (task_is p t def well is_def))
+    subst (All (RegionLies p def.rank)) order_def (regions_lie p def well (task_is p t def well is_def))
 
 -- its copy has the cells of its regions
-pub record_cells : (task : TaskDef) (ordered : List Access) (count : ℕ) → ordered ≡ regions task.accesses.items → count ≡ region_cells task → count ≡ cell_total ordered
+pub record_cells : (task : TaskDef) (ordered : List Region) (count : ℕ) → ordered ≡ regions task.accesses.items → count ≡ region_cells task
+    → count ≡ cell_total ordered
 record_cells task ordered count order cells = cells ∙ sym (cell_total-regions task.accesses.items) ∙ ap cell_total (sym order)
 
 -- they are few
-pub record_total : (p q : Program) (t : ℕ) (def task : TaskDef) (ordered : List Access) → WellFormed p → p ≡ q
+pub record_total : (p q : Program) (t : ℕ) (def task : TaskDef) (ordered : List Region) → WellFormed p → p ≡ q
     → slice_get p.tasks.items t ≡ Some def → slice_get q.tasks.items t ≡ Some task → ordered ≡ regions task.accesses.items → cell_total ordered ≤ 134217728
 record_total p q t def task ordered well same is_def is_task order =
     let one = one_task p q t def task same is_def is_task in
     let few = few_cells p t def well is_def in
-    let cells : cell_total ordered ≡ cell_total def.accesses.items =
-    ap cell_total order ∙ cell_total-regions task.accesses.items ∙ ap (λ (d : TaskDef). cell_total d.accesses.items) (sym one) in
+    let cells : cell_total ordered ≡ cells_among def.accesses.items =
+    ap cell_total order ∙ cell_total-regions task.accesses.items ∙ ap (λ (d : TaskDef). cells_among d.accesses.items) (sym one) in
     omega arith
 
 -- its operations can run
-pub record_can_run : (p q : Program) (t : ℕ) (def task : TaskDef) (ordered : List Access) (copy scratch : ℕ) → WellFormed p → p ≡ q
+pub record_can_run : (p q : Program) (t : ℕ) (def task : TaskDef) (ordered : List Region) (copy scratch : ℕ) → WellFormed p → p ≡ q
     → slice_get p.tasks.items t ≡ Some def → slice_get q.tasks.items t ≡ Some task → ordered ≡ regions task.accesses.items
     → copy ≡ region_cells task → HasRoomFor ordered task.body.items scratch → All (CanRun ordered copy scratch) def.body.items
 record_can_run p q t def task ordered copy scratch well same is_def is_task order cells room =
@@ -152,21 +164,24 @@ unfolding advanced stop
 moved_on_is held d k stopped copy is_at is_def is_stopped is_copy = rw (is_at, is_def, is_stopped, is_copy) refl
 
 -- what is stored at the front of a declared span has its places in the copy
-pub record_stores : (task : TaskDef) (ordered : List Access) (count cells : ℕ) (span : Span) → ordered ≡ regions task.accesses.items → count ≡ region_cells task
+pub record_stores : (task : TaskDef) (ordered : List Region) (count cells : ℕ) (span : Span) → ordered ≡ regions task.accesses.items → count ≡ region_cells task
     → IsDeclared task.accesses.items span → cells ≤ span_len span → place_in ordered span.array span.from + cells ≤ count
 record_stores task ordered count cells span order all declared fits =
     let within = declared_fits_in task.accesses.items span declared in
-    let e = ap (λ (found : List Access). place_in found span.array span.from) order in
+    let e = ap (λ (found : List Region). place_in found span.array span.from) order in
     omega arith
 
-pub stored_is : (held : Record) (task : TaskDef) (ordered : List Access) (span : Span) (cells copied : List ℤ) → def held ≡ task → ordered ≡ regions task.accesses.items
-    → copied ≡ spliced (place_in ordered span.array span.from) cells held.copy → record held { copy = copied } ≡ record held { copy = put (def held) span cells held.copy }
+pub stored_is : (held : Record) (task : TaskDef) (ordered : List Region) (span : Span) (cells copied : List ℤ) → def held ≡ task
+    → ordered ≡ regions task.accesses.items
+    → copied ≡ spliced (place_in ordered span.array span.from) cells held.copy
+    → record held { copy = copied } ≡ record held { copy = put (def held) span cells held.copy }
 stored_is held task ordered span cells copied is_def order is_copied =
     rw is_def (ap (λ (copy : List ℤ). record held { copy = copy }) (is_copied ∙ put_in task ordered held.copy cells span order))
 
 -- ---- what is sent
 
-fits_send : (p : Program) (task : TaskDef) (operation : Op) → IsOperation p task operation → FitsSend (regions task.accesses.items) (cell_total task.accesses.items) operation
+fits_send : (p : Program) (task : TaskDef) (operation : Op) → IsOperation p task operation
+    → FitsSend (regions task.accesses.items) (cells_among task.accesses.items) operation
 fits_send p task (op.Compute kind dst left right value step) is = tt
 fits_send p task (op.Post how.Send span whom selected comm None) is = λ sends. declared_fits_in task.accesses.items span is.0.0.declared
 fits_send p task (op.Post how.Send span whom selected comm (Some status)) is = absurd is.0
@@ -180,7 +195,7 @@ fits_send p task (op.Post how.Issend span whom selected comm (Some status)) is =
 fits_send p task (op.Post how.Irecv span whom selected comm status) is = λ sends. absurd (true≢false sends)
 fits_send p task (op.Await later handles status) is = tt
 
-pub record_sends : (p q : Program) (t : ℕ) (def task : TaskDef) (ordered : List Access) (count k : ℕ) (operation : Op) → WellFormed p → p ≡ q
+pub record_sends : (p q : Program) (t : ℕ) (def task : TaskDef) (ordered : List Region) (count k : ℕ) (operation : Op) → WellFormed p → p ≡ q
     → slice_get p.tasks.items t ≡ Some def → slice_get q.tasks.items t ≡ Some task → ordered ≡ regions task.accesses.items
     → count ≡ region_cells task → slice_get def.body.items k ≡ Some operation → FitsSend ordered count operation
 record_sends p q t def task ordered count k operation well same is_def is_task order cells is_operation =
@@ -188,17 +203,18 @@ record_sends p q t def task ordered count k operation well same is_def is_task o
     let is = subst (IsOperation p def) (get_or_from_slice_get def.body.items k operation operation is_operation)
     (All-get_or (IsOperation p def) def.body.items k operation (slice_get_within def.body.items k operation is_operation) (task_is p t def well is_def).body) in
     let order_def : ordered ≡ regions def.accesses.items = order ∙ ap (λ (d : TaskDef). regions d.accesses.items) (sym one) in
-    let count_def : count ≡ cell_total def.accesses.items = cells ∙ ap region_cells (sym one) in
+    let count_def : count ≡ cells_among def.accesses.items = cells ∙ ap region_cells (sym one) in
     rw (order_def, count_def) (fits_send p def operation is)
 
-sent_is : (task : TaskDef) (ordered : List Access) (copy : List ℤ) (operation : Op) → ordered ≡ regions task.accesses.items
+sent_is : (task : TaskDef) (ordered : List Region) (copy : List ℤ) (operation : Op) → ordered ≡ regions task.accesses.items
     → sent_in ordered copy operation ≡ packed_by task (Some operation) copy
 sent_is task ordered copy (op.Compute kind dst left right value step) order = refl
 sent_is task ordered copy (op.Post kind span whom selected comm status) order =
     ap (λ (cells : List ℤ). if is_receive kind then [] else cells) (source_is task ordered copy (Some span) order)
 sent_is task ordered copy (op.Await later handles status) order = refl
 
-pub packed_is : (held : Record) (d task : TaskDef) (ordered : List Access) (k : ℕ) (operation : Op) (cells : List ℤ) → held.phase ≡ phase.At k → def held ≡ d → d ≡ task
+pub packed_is : (held : Record) (d task : TaskDef) (ordered : List Region) (k : ℕ) (operation : Op) (cells : List ℤ) → held.phase ≡ phase.At k → def held ≡ d
+    → d ≡ task
     → ordered ≡ regions task.accesses.items → slice_get d.body.items k ≡ Some operation → cells ≡ sent_in ordered held.copy operation
     → cells ≡ packed_next (def held) held.phase held.copy
 unfolding packed

@@ -15,7 +15,7 @@ use Rattle.rt_base.specs.declared.data.Op.TheVariants as op
 use Rattle.rt_base.specs.declared.data.TaskDef.{TaskDef}
 use Rattle.rt_base.specs.declared.data.Program.{Program}
 use Rattle.rt_base.specs.Spans.{span_len, Overlaps}
-use Rattle.rt_base.specs.Layout.{array_count, array_len}
+use Rattle.rt_base.specs.Layout.{array_count, array_len, starts_from}
 use Rattle.rt_base.specs.Operations.{postings}
 use Rattle.rt_base.specs.InUse.{left_after, used_after, is_in_use}
 use Rattle.rt_base.specs.Pieces.{is_bound_of, pieces_of, pieces}
@@ -60,6 +60,7 @@ pub record IsSample (p : Program) (first second third : TaskDef) : Type 0 where
   pub comms : p.comms ≡ 1
   pub names : array_count p ≡ 1
   pub lens : p.lens.items ≡ 4 ∷ []
+  pub starts : p.starts.items ≡ starts_from 0 p.lens.items
   pub shows : p.shows.items ≡ []
   pub tasks : p.tasks.items ≡ first ∷ second ∷ third ∷ []
   pub is_first : IsSampleTask first (ramp_op ∷ [])
@@ -83,20 +84,23 @@ len_is p first second third is =
     let first_place : 0 * array_count p + 0 ≡ 0 = omega arith in
     ap (λ i. slice_index p.lens.items i) first_place ∙ ap (λ lens. slice_index lens 0) is.lens
 
-in_array : (p : Program) (first second third : TaskDef) (rank from to : ℕ) → IsSample p first second third → rank ≡ 0 → from ≤ to → to ≤ 4 → IsSpan p rank (cells_of_a from to)
+in_array : (p : Program) (first second third : TaskDef) (rank from to : ℕ) → IsSample p first second third → rank ≡ 0 → from ≤ to → to ≤ 4
+    → IsSpan p rank (cells_of_a from to)
 in_array p first second third rank from to is none ordered within =
     let names : 0 < array_count p = (let e = is.names in omega arith) in
     let len = len_is p first second third is in
     record { ordered = ordered; array = λ _. names; inside = λ _. subst (λ r. to ≤ array_len p r 0) (sym none) (omega arith) }
 
-may_read : (p : Program) (first second third task : TaskDef) (body : List Op) (from to : ℕ) → IsSample p first second third → IsSampleTask task body → from ≤ to → to ≤ 4
+may_read : (p : Program) (first second third task : TaskDef) (body : List Op) (from to : ℕ) → IsSample p first second third → IsSampleTask task body
+    → from ≤ to → to ≤ 4
     → MayRead p task (cells_of_a from to)
 may_read p first second third task body from to is is_task ordered within = record {
   in_array = in_array p first second third task.rank from to is is_task.rank ordered within;
   declared = subst (λ (accesses : List Access). IsDeclared accesses (cells_of_a from to)) (sym is_task.accesses) (is_declared from to within);
 }
 
-may_write : (p : Program) (first second third task : TaskDef) (body : List Op) (from to : ℕ) → IsSample p first second third → IsSampleTask task body → from ≤ to → to ≤ 4
+may_write : (p : Program) (first second third task : TaskDef) (body : List Op) (from to : ℕ) → IsSample p first second third → IsSampleTask task body
+    → from ≤ to → to ≤ 4
     → MayWrite p task (cells_of_a from to)
 may_write p first second third task body from to is is_task ordered within = record {
   in_array = in_array p first second third task.rank from to is is_task.rank ordered within;
@@ -156,29 +160,34 @@ unfolding left_after
 send_leaves_none = refl
 
 -- one operation alone, and two of which the second uses no cell
-ramp_follows : (earlier later : List Op) (operation : Op) → (ramp_op ∷ []) ≡ earlier ++ operation ∷ later → Follows earlier operation
+ramp_follows : (accesses : List Access) (earlier later : List Op) (operation : Op) → (ramp_op ∷ []) ≡ earlier ++ operation ∷ later
+    → Follows accesses earlier operation
 unfolding is_in_use used_after
-ramp_follows [] [] operation is = let same : operation ≡ ramp_op = cc in rw same (record { handles = tt; free = refl })
-ramp_follows [] (other ∷ later) operation is = absurd (let e = ap length is in omega arith)
-ramp_follows (op ∷ earlier) later operation is = absurd (let e = ap length is in omega (arith, length-append earlier (operation ∷ later)))
+ramp_follows accesses [] [] operation is = let same : operation ≡ ramp_op = cc in rw same (record { handles = tt; free = refl })
+ramp_follows accesses [] (other ∷ later) operation is = absurd (let e = ap length is in omega arith)
+ramp_follows accesses (op ∷ earlier) later operation is = absurd (let e = ap length is in omega (arith, length-append earlier (operation ∷ later)))
 
-send_follows : (earlier later : List Op) (operation : Op) → (send_op ∷ []) ≡ earlier ++ operation ∷ later → Follows earlier operation
+send_follows : (accesses : List Access) (earlier later : List Op) (operation : Op) → (send_op ∷ []) ≡ earlier ++ operation ∷ later
+    → Follows accesses earlier operation
 unfolding is_in_use used_after
-send_follows [] [] operation is = let same : operation ≡ send_op = cc in rw same (record { handles = tt; free = refl })
-send_follows [] (other ∷ later) operation is = absurd (let e = ap length is in omega arith)
-send_follows (op ∷ earlier) later operation is = absurd (let e = ap length is in omega (arith, length-append earlier (operation ∷ later)))
+send_follows accesses [] [] operation is = let same : operation ≡ send_op = cc in rw same (record { handles = tt; free = refl })
+send_follows accesses [] (other ∷ later) operation is = absurd (let e = ap length is in omega arith)
+send_follows accesses (op ∷ earlier) later operation is = absurd (let e = ap length is in omega (arith, length-append earlier (operation ∷ later)))
 
-copy_follows : (earlier later : List Op) (operation : Op) → (copy_op ∷ fill_op ∷ []) ≡ earlier ++ operation ∷ later → Follows earlier operation
+copy_follows : (accesses : List Access) (earlier later : List Op) (operation : Op) → (copy_op ∷ fill_op ∷ []) ≡ earlier ++ operation ∷ later
+    → Follows accesses earlier operation
 unfolding is_in_use used_after
-copy_follows [] later operation is = let same : operation ≡ copy_op = cc in rw same (record { handles = tt; free = refl })
-copy_follows (first ∷ []) later operation is =
+copy_follows accesses [] later operation is = let same : operation ≡ copy_op = cc in rw same (record { handles = tt; free = refl })
+copy_follows accesses (first ∷ []) later operation is =
     let before : first ≡ copy_op = cc in
     let same : operation ≡ fill_op = cc in
     rw (before, same) (record { handles = tt; free = refl })
-copy_follows (first ∷ second ∷ earlier) later operation is = absurd (let e = ap length is in omega (arith, length-append earlier (operation ∷ later)))
+copy_follows accesses (first ∷ second ∷ earlier) later operation is = absurd (let e = ap length is in omega (arith, length-append earlier (operation ∷ later)))
 
-sample_task : (p : Program) (first second third task : TaskDef) (body : List Op) → IsSample p first second third → IsSampleTask task body → All (IsOperation p task) body
-    → ((earlier later : List Op) (operation : Op) → body ≡ earlier ++ operation ∷ later → Follows earlier operation) → left_after 0 body ≡ [] → IsTask p task
+sample_task : (p : Program) (first second third task : TaskDef) (body : List Op) → IsSample p first second third → IsSampleTask task body
+    → All (IsOperation p task) body
+    → ((earlier later : List Op) (operation : Op) → body ≡ earlier ++ operation ∷ later → Follows task.accesses.items earlier operation)
+    → left_after 0 body ≡ [] → IsTask p task
 sample_task p first second third task body is is_task operations follows none_left = record {
   rank = (let e = is.ranks in let f = is_task.rank in omega arith);
   regions = subst (All (λ (access : Access). IsSpan p task.rank access.span)) (sym is_task.accesses)
@@ -256,6 +265,7 @@ sample_is_well_formed p first second third is =
       few_comms = (let e = is.comms in omega arith);
       arrays = (let e = is.names in omega arith);
       lens = ap length is.lens ∙ sym (ap (λ n. n * array_count p) is.ranks ∙ ap (λ n. 1 * n) is.names);
+      starts = is.starts;
       cells = (let e = ap sum is.lens in omega arith);
       shows = subst (All (λ array. array < array_count p)) (sym is.shows) (All-nil (λ array. array < array_count p));
       shown_once = subst (AllPairs (λ one other. one ≢ other)) (sym is.shows) (λ i j d below within. absurd (omega arith));
@@ -267,11 +277,15 @@ sample_is_well_formed p first second third is =
       handles = (let e = ap (over_operations names_of) is.tasks in omega (arith, first_names, second_names, third_names));
       message_cells = (let e = ap (over_operations cells_sent) is.tasks in omega (arith, first_sent, second_sent, third_sent));
       few_pieces = pieces_are_few p first second third is;
-      order = subst (AllPairs InOrder) tasks (pairs_of_three InOrder first second third (in_order is.is_first is.is_second) (in_order is.is_first is.is_third) (in_order is.is_second is.is_third));
+      order = subst (AllPairs InOrder) tasks (pairs_of_three InOrder first second third (in_order is.is_first is.is_second)
+          (in_order is.is_first is.is_third) (in_order is.is_second is.is_third));
       tasks = subst (All (IsTask p)) tasks (all_of_three (IsTask p) first second third
-          (sample_task p first second third first (ramp_op ∷ []) is is.is_first (first_operations p first second third is) ramp_follows ramp_leaves_none)
-          (sample_task p first second third second (copy_op ∷ fill_op ∷ []) is is.is_second (second_operations p first second third is) copy_follows copy_leaves_none)
-          (sample_task p first second third third (send_op ∷ []) is is.is_third (third_operations p first second third is) send_follows send_leaves_none));
+          (sample_task p first second third first (ramp_op ∷ []) is is.is_first (first_operations p first second third is)
+          (ramp_follows first.accesses.items) ramp_leaves_none)
+          (sample_task p first second third second (copy_op ∷ fill_op ∷ []) is is.is_second (second_operations p first second third is)
+          (copy_follows second.accesses.items) copy_leaves_none)
+          (sample_task p first second third third (send_op ∷ []) is is.is_third (third_operations p first second third is)
+          (send_follows third.accesses.items) send_leaves_none));
     }
 
 -- the last task declares the cells behind the first one

@@ -1,14 +1,17 @@
 -- What follows from the definitions alone.
-use Rattle.std.specs.Prelude.{◌≡◌, ◌↔◌, ℕ, true, ℤ, List, length, take, drop, slice_get, All}
+use Rattle.std.specs.Prelude.{◌≡◌, ◌↔◌, ℕ, ◌*◌, ◌≤◌, true, ℤ, List, length, take, drop, slice_get, Some, All}
+use Rattle.std.specs.List.{flat_map}
 use Rattle.rt_base.specs.declared.data.Span.{Span}
 use Rattle.rt_base.specs.declared.data.Access.{Access}
+use Rattle.rt_base.specs.declared.data.Status.{Status}
 use Rattle.rt_base.specs.declared.data.TaskDef.{TaskDef}
 use Rattle.rt_base.specs.declared.data.Program.{Program}
 use Rattle.rt_base.specs.Spans.{span_len, Covers, is_written}
 use Rattle.rt_base.specs.Layout.{address, memory_len}
 use Rattle.rt_base.specs.WellFormed.{WellFormed, IsTask, MayRead, MayWrite, region_cells}
 use Rattle.rt_base.specs.State.{State}
-use Rattle.task_local.specs.Regions.{cells_of_span, loaded, saved}
+use Rattle.task_local.specs.Regions.{cells_of_span, put, loaded, saved}
+use Rattle.task_local.specs.Waits.{status_cells, put_statuses}
 use Rattle.task_local.specs.StandsFor.{Record, StandsFor}
 use Rattle.task_local.specs.Standing.{def, moved_on}
 
@@ -46,3 +49,10 @@ OtherCellsStay =
     → length copy ≡ region_cells task → length memory ≡ memory_len program
     → All (λ (access : Access). is_written access.mode ≡ true → ¬ IsCellAt program task.rank access.span at) task.accesses.items
     → slice_get (saved program task copy memory) at ≡ slice_get memory at
+
+-- statuses that are stored one behind another, in a span that the task may write, are all their cells stored at once (this project's)
+abbrev pub StatusesAreInARow : Type 0
+StatusesAreInARow =
+    (program : Program) (task : TaskDef) (copy : List ℤ) (span : Span) (statuses : List Status) → WellFormed program → IsTask program task
+    → length copy ≡ region_cells task → MayWrite program task span → 4 * length statuses ≤ span_len span
+    → put_statuses task (Some span) statuses copy ≡ put task span (flat_map status_cells statuses) copy

@@ -1,15 +1,15 @@
 -- What a task's local operations do to its copy, and where it stands after them.
-use Rattle.std.specs.Prelude.{ℕ, ◌+◌, List, [], ◌∷◌, drop, ℤ, pos, negsuc, Option, Some, None}
+use Rattle.std.specs.Prelude.{ℕ, ◌+◌, List, [], ◌∷◌, drop, ℤ, pos, negsuc, Option, Some, None, if◌then◌else◌}
 use Rattle.block_kernels.specs.Kernels.{filled, ramped, copied, added, subtracted, scaled, shifted, jacobi, total, least_of, greatest_of}
 use Rattle.rt_base.specs.declared.data.Span.{Span}
 use Rattle.rt_base.specs.declared.data.Kernel.{Kernel}
 use Rattle.rt_base.specs.declared.data.Kernel.TheVariants as kernel
 use Rattle.rt_base.specs.declared.data.Op.{Op}
-use Rattle.rt_base.specs.declared.data.Op.TheVariants as op
 use Rattle.rt_base.specs.declared.data.Phase.{Phase}
 use Rattle.rt_base.specs.declared.data.Phase.TheVariants as phase
 use Rattle.rt_base.specs.declared.data.TaskDef.{TaskDef}
 use Rattle.rt_base.specs.Spans.{span_len}
+use Rattle.rt_base.specs.Operations.{kernel_parts, is_local, given}
 use Rattle.task_local.specs.Regions.{cells_of_span, put}
 
 -- a number that isn't negative, as a count of places
@@ -38,25 +38,21 @@ source_cells task copy (Some span) = cells_of_span task span copy
 
 -- the copy after a local operation: all sources are read before a cell is written
 abbrev pub computed : TaskDef → Op → List ℤ → List ℤ
-computed task (op.Compute kind dst left right value step) copy =
-    put task dst (kernel_value kind (span_len dst) (source_cells task copy left) (source_cells task copy right) value step) copy
-computed task (op.Post how span peer tag comm status) copy = copy
-computed task (op.Await later handles status) copy = copy
+computed task operation copy =
+    given copy
+    (λ parts. put task parts.dst
+    (kernel_value parts.kernel (span_len parts.dst) (source_cells task copy parts.left) (source_cells task copy parts.right) parts.value parts.step) copy)
+    (kernel_parts operation)
 
 -- the copy after the local operations at the front of these have run
 abbrev pub run_front : TaskDef → List Op → List ℤ → List ℤ
 run_front task [] copy = copy
-run_front task (op.Compute kind dst left right value step ∷ ops) copy =
-    run_front task ops (computed task (op.Compute kind dst left right value step) copy)
-run_front task (op.Post how span peer tag comm status ∷ ops) copy = copy
-run_front task (op.Await later handles status ∷ ops) copy = copy
+run_front task (operation ∷ ops) copy = if is_local operation then run_front task ops (computed task operation copy) else copy
 
 -- where a task stands after the local operations at the front of these, of which the first is operation k
 abbrev pub stop_at : ℕ → List Op → Phase
 stop_at k [] = phase.Ended
-stop_at k (op.Compute kind dst left right value step ∷ ops) = stop_at (k + 1) ops
-stop_at k (op.Post how span peer tag comm status ∷ ops) = phase.At k
-stop_at k (op.Await later handles status ∷ ops) = phase.At k
+stop_at k (operation ∷ ops) = if is_local operation then stop_at (k + 1) ops else phase.At k
 
 -- the copy after the local operations from operation k on have run, up to the first other operation or the end of the body
 unfoldable pub advanced : TaskDef → ℕ → List ℤ → List ℤ

@@ -1,11 +1,11 @@
 -- Where a record stands, what may follow, and what its calls change.
-use Rattle.std.specs.Prelude.{◌≡◌, ℕ, ◌+◌, nat_lt, List, [], length, slice_get, ℤ, Option, Some, None, unwrap_or, ⊤, ◌⊎◌, if◌then◌else◌}
+use Rattle.std.specs.Prelude.{◌≡◌, ℕ, ◌+◌, nat_lt, List, [], length, slice_get, ℤ, Option, Some, None, unwrap_or, IsFalse, ◌⊎◌, if◌then◌else◌}
 use Rattle.rt_base.specs.declared.data.Op.{Op}
-use Rattle.rt_base.specs.declared.data.Op.TheVariants as op
 use Rattle.rt_base.specs.declared.data.Phase.{Phase}
 use Rattle.rt_base.specs.declared.data.Phase.TheVariants as phase
 use Rattle.rt_base.specs.declared.data.TaskDef.{TaskDef}
 use Rattle.rt_base.specs.declared.data.Program.{Program}
+use Rattle.rt_base.specs.Operations.{is_local}
 use Rattle.task_local.specs.declared.standing.At.{At}
 use Rattle.task_local.specs.declared.standing.At.TheVariants as at
 use Rattle.task_local.specs.Packed.{packed}
@@ -27,9 +27,7 @@ def held = def_of held.program held.task
 -- how a task stands that is before this operation: at a local one, or at a call
 abbrev pub at_operation : ℕ → Option Op → At
 at_operation k None = at.Ended
-at_operation k (Some (op.Compute kind dst left right value step)) = at.Local
-at_operation k (Some (op.Post how span peer tag comm status)) = at.Call k
-at_operation k (Some (op.Await later handles status)) = at.Call k
+at_operation k (Some operation) = if is_local operation then at.Local else at.Call k
 
 -- how a task in this phase stands
 abbrev pub at_phase : TaskDef → Phase → At
@@ -47,9 +45,7 @@ phase_before task k = if nat_lt k (length task.body.items) then phase.At k else 
 -- the operation is there, and isn't a local one
 abbrev pub IsCall : Option Op → Type 0
 IsCall None = ⊥
-IsCall (Some (op.Compute kind dst left right value step)) = ⊥
-IsCall (Some (op.Post how span peer tag comm status)) = ⊤
-IsCall (Some (op.Await later handles status)) = ⊤
+IsCall (Some operation) = IsFalse (is_local operation)
 
 -- the task is before a call
 abbrev pub IsAtCall : TaskDef → Phase → Type 0
@@ -61,13 +57,13 @@ IsAtCall task phase.Returned = ⊥
 IsAtCall task phase.Released = ⊥
 
 -- a phase of a task that a call or a return may bring about from this one
-abbrev pub Follows : TaskDef → Phase → Phase → Type 0
-Follows task phase.Waiting next = next ≡ phase_before task 0
-Follows task (phase.At k) next = IsCall (slice_get task.body.items k) × ((next ≡ phase.In k) ⊎ (next ≡ phase_before task (k + 1)))
-Follows task (phase.In k) next = next ≡ phase_before task (k + 1)
-Follows task phase.Ended next = next ≡ phase.Returned
-Follows task phase.Returned next = next ≡ phase.Released
-Follows task phase.Released next = ⊥
+abbrev pub GoesTo : TaskDef → Phase → Phase → Type 0
+GoesTo task phase.Waiting next = next ≡ phase_before task 0
+GoesTo task (phase.At k) next = IsCall (slice_get task.body.items k) × ((next ≡ phase.In k) ⊎ (next ≡ phase_before task (k + 1)))
+GoesTo task (phase.In k) next = next ≡ phase_before task (k + 1)
+GoesTo task phase.Ended next = next ≡ phase.Returned
+GoesTo task phase.Returned next = next ≡ phase.Released
+GoesTo task phase.Released next = ⊥
 
 -- the record after the local operations that come next, if the task is before an operation
 abbrev pub moved_on : TaskDef → Phase → Record → Record

@@ -9,7 +9,7 @@ ghost use Rattle.task_local.specs.Kept.{TakesCells, CanRun, FitsSend, IsScratchF
 
 use crate::index::{RegionIndex, cells_in};
 use crate::parts::{Part, cells_beside, is_apart_from_sources, part_of_source, part_of_span};
-use rt_base::{How, Kernel, Op, Phase, TaskDef};
+use rt_base::{Kernel, Op, Phase, TaskDef};
 
 // Runs the local operations from this one on, up to the first other operation or the end of the body.
 pub(crate) fn run_from(
@@ -28,11 +28,10 @@ pub(crate) fn run_from(
 {
     let body = def.body.as_slice();
     for k in first as usize..body.len() {
-        match &body[k] {
-            Op::Compute { .. } => run_operation(def, index, copy, scratch, &body[k]),
-            Op::Post { .. } => return Phase::At(k as u32),
-            Op::Await { .. } => return Phase::At(k as u32),
+        if !body[k].is_local() {
+            return Phase::At(k as u32);
         }
+        run_operation(def, index, copy, scratch, &body[k]);
     }
     Phase::Ended
 }
@@ -43,27 +42,24 @@ fn run_operation(def: &TaskDef, index: &RegionIndex, copy: &mut [i64], scratch: 
     requires can { CanRun index.now (length copy.old) (length scratch.old) op.now }
     ensures { copy.new ≡ computed def.now op.now copy.old }
 {
-    match op {
-        Op::Compute {
-            kernel,
-            dst,
-            left,
-            right,
-            value,
-            step,
-        } => {
-            let placed = Placed {
-                kernel: *kernel,
-                dst: part_of_span(index, *dst),
-                left: part_of_source(index, *left),
-                right: part_of_source(index, *right),
-                value: *value,
-                step: *step,
-            };
-            run_placed(copy, scratch, &placed);
-        }
-        Op::Post { .. } => {}
-        Op::Await { .. } => {}
+    if let Op::Compute {
+        kernel,
+        dst,
+        left,
+        right,
+        value,
+        step,
+    } = op
+    {
+        let placed = Placed {
+            kernel: *kernel,
+            dst: part_of_span(index, *dst),
+            left: part_of_source(index, *left),
+            right: part_of_source(index, *right),
+            value: *value,
+            step: *step,
+        };
+        run_placed(copy, scratch, &placed);
     }
 }
 
@@ -93,24 +89,22 @@ pub(crate) fn longest_scratch(index: &RegionIndex, body: &[Op]) -> usize
 fn scratch_len(index: &RegionIndex, op: &Op) -> usize
     ensures { IsScratchFor index.now result op.now }
 {
-    match op {
-        Op::Compute {
-            dst,
-            left,
-            right,
-            ..
-        } => {
-            let dst = part_of_span(index, *dst);
-            let left = part_of_source(index, *left);
-            let right = part_of_source(index, *right);
-            if is_apart_from_sources(dst, left, right) {
-                0
-            } else {
-                dst.count
-            }
-        }
-        Op::Post { .. } => 0,
-        Op::Await { .. } => 0,
+    let Op::Compute {
+        dst,
+        left,
+        right,
+        ..
+    } = op
+    else {
+        return 0;
+    };
+    let dst = part_of_span(index, *dst);
+    let left = part_of_source(index, *left);
+    let right = part_of_source(index, *right);
+    if is_apart_from_sources(dst, left, right) {
+        0
+    } else {
+        dst.count
     }
 }
 
@@ -182,11 +176,7 @@ pub(crate) fn sent_cells<'c>(index: &RegionIndex, copy: &'c [i64], op: &Op) -> &
     ensures { result.now ≡ sent_in index.now copy.now op.now }
 {
     match op {
-        Op::Compute { .. } => &[],
-        Op::Post { how, span, .. } => match how {
-            How::Send | How::Ssend | How::Isend | How::Issend => cells_in(index, copy, *span),
-            How::Recv | How::Irecv => &[],
-        },
-        Op::Await { .. } => &[],
+        Op::Post { how, span, .. } if !how.is_receive() => cells_in(index, copy, *span),
+        _ => &[],
     }
 }

@@ -1,6 +1,6 @@
 //! What follows from the definitions alone.
 
-ghost use Rattle.task_local.specs.Laws.{LocalOperationsAreUnseen, FreshSpansAreOfMemory, SavedSpansAreOfCopy, OtherCellsStay};
+ghost use Rattle.task_local.specs.Laws.{LocalOperationsAreUnseen, FreshSpansAreOfMemory, SavedSpansAreOfCopy, OtherCellsStay, StatusesAreInARow};
 
 /// A record stands for its task after its local operations exactly where it does before them.
 pub fn local_operations()
@@ -16,4 +16,9 @@ pub fn fresh_spans()
 pub fn saved_spans()
     ensures written { SavedSpansAreOfCopy }
     ensures others { OtherCellsStay }
+{}
+
+/// Statuses that are stored one behind another, in a span that the task may write, are all their cells stored at once.
+pub fn statuses_in_a_row()
+    ensures { StatusesAreInARow }
 {}

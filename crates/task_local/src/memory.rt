@@ -1,32 +1,31 @@
 //! The memory of all ranks, as regions are loaded from it and put back.
 
-ghost use Rattle.std.specs.Prelude.{◌≡◌, ◌+◌, ◌^◌, ◌<◌, ◌≤◌, length, All, sum, if◌then◌else◌};
-ghost use Rattle.rt_base.specs.Spans.{is_written, span_len};
+ghost use Rattle.std.specs.Prelude.{◌≡◌, ◌≤◌, length, All};
+ghost use Rattle.rt_base.specs.Spans.{span_len};
 ghost use Rattle.rt_base.specs.Layout.{address, memory_len};
-ghost use Rattle.task_local.specs.Regions.{loaded_regions, saved_regions, spliced};
-ghost use Rattle.task_local.specs.Kept.{cell_total, HasMet, LiesIn};
+ghost use Rattle.task_local.specs.Regions.{loaded_regions, saved_regions, put_back};
+ghost use Rattle.task_local.specs.Kept.{cell_total, LiesIn, RegionLies};
 
-use crate::standing::cell_count;
-use rt_base::{Access, Mode, Program};
+use crate::index::Region;
+use rt_base::{Access, Program};
 
 // Copies the cells of the regions in from the memory of all ranks.
 pub(crate) fn load_regions(
     prog: &Program,
     rank: u16,
-    ordered: &[Access],
+    ordered: &[Region],
     memory: &[i64],
     copy: &mut [i64],
 )
-    requires inside { All (LiesIn prog.now rank) ordered.now }
+    requires inside { All (RegionLies prog.now rank) ordered.now }
     requires memory { length memory.now ≡ memory_len prog.now }
     requires copy { length copy.old ≡ cell_total ordered.now }
     ensures { copy.new ≡ loaded_regions prog.now rank ordered.now memory.now }
 {
     let mut at = 0;
-    let mut met = None;
-    for access in ordered {
-        let from = address_of(prog, rank, access, &mut met);
-        let count = cell_count(access.span);
+    for region in ordered {
+        let from = address_of(prog, rank, &region.access);
+        let count = region.access.span.len() as usize;
         copy[at..at + count].copy_from_slice(&memory[from..from + count]);
         at += count;
     }
@@ -36,88 +35,40 @@ pub(crate) fn load_regions(
 pub(crate) fn save_regions(
     prog: &Program,
     rank: u16,
-    ordered: &[Access],
+    ordered: &[Region],
     copy: &[i64],
     memory: &mut [i64],
 )
-    requires inside { All (LiesIn prog.now rank) ordered.now }
+    requires inside { All (RegionLies prog.now rank) ordered.now }
     requires memory { length memory.old ≡ memory_len prog.now }
     requires copy { length copy.now ≡ cell_total ordered.now }
     ensures { memory.new ≡ saved_regions prog.now rank ordered.now copy.now memory.old }
 {
     let mut at = 0;
-    let mut met = None;
-    for access in ordered {
-        let count = cell_count(access.span);
-        put_back_region(prog, rank, access, &mut met, &copy[at..at + count], memory);
+    for region in ordered {
+        let count = region.access.span.len() as usize;
+        put_back_region(prog, rank, &region.access, &copy[at..at + count], memory);
         at += count;
     }
 }
 
 // Puts the cells of a region back, where the region is written.
-fn put_back_region(
-    prog: &Program,
-    rank: u16,
-    access: &Access,
-    met: &mut Option<(u16, usize)>,
-    cells: &[i64],
-    memory: &mut [i64],
-)
+fn put_back_region(prog: &Program, rank: u16, access: &Access, cells: &[i64], memory: &mut [i64])
     requires lies { LiesIn prog.now rank access.now }
     requires memory { length memory.old ≡ memory_len prog.now }
     requires cells { length cells.now ≡ span_len access.now.span }
-    requires met { HasMet prog.now rank met.old }
-    ensures memory { memory.new ≡ (if is_written access.now.mode
-        then spliced (address prog.now rank access.now.span.array access.now.span.from) cells.now memory.old
-        else memory.old) }
-    ensures met { HasMet prog.now rank met.new }
+    ensures { memory.new ≡ put_back prog.now rank access.now cells.now memory.old }
 {
-    match access.mode {
-        Mode::In => {}
-        Mode::Out | Mode::Inout => {
-            let from = address_of(prog, rank, access, met);
-            memory[from..from + cells.len()].copy_from_slice(cells);
-        }
+    if access.mode.is_written() {
+        let from = address_of(prog, rank, access);
+        memory[from..from + cells.len()].copy_from_slice(cells);
     }
 }
 
 // Where the region's first cell lies in the memory of all ranks.
-fn address_of(prog: &Program, rank: u16, access: &Access, met: &mut Option<(u16, usize)>) -> usize
+fn address_of(prog: &Program, rank: u16, access: &Access) -> usize
     requires lies { LiesIn prog.now rank access.now }
-    requires met { HasMet prog.now rank met.old }
-    ensures address { result ≡ address prog.now rank access.now.span.array access.now.span.from }
-    ensures met { HasMet prog.now rank met.new }
+    ensures { result ≡ address prog.now rank access.now.span.array access.now.span.from }
 {
-    let start = start_of(prog, rank, access, *met);
-    *met = Some((access.span.array, start));
-    start + access.span.from as usize
-}
-
-// Where the region's array begins. Regions are by array, so the lengths are summed on from the array that was met last.
-fn start_of(prog: &Program, rank: u16, access: &Access, met: Option<(u16, usize)>) -> usize
-    requires lies { LiesIn prog.now rank access.now }
-    requires met { HasMet prog.now rank met }
-    ensures { result ≡ address prog.now rank access.now.span.array 0 }
-{
-    let lens = prog.lens.as_slice();
-    let first = rank as usize * prog.names.len();
-    let place = first + access.span.array as usize;
-    if let Some((array, start)) = met
-        && array <= access.span.array
-    {
-        return start + total_len(&lens[first + array as usize..place]);
-    }
-    total_len(&lens[..place])
-}
-
-// How many cells arrays of these lengths have.
-fn total_len(lens: &[u32]) -> usize
-    requires { sum lens.now < 2 ^ 63 }
-    ensures { result ≡ sum lens.now }
-{
-    let mut total = 0;
-    for len in lens {
-        total += *len as usize;
-    }
-    total
+    prog.start_of(rank, access.span.array) as usize + access.span.from as usize
 }

@@ -5,7 +5,6 @@ ghost use Rattle.rt_base.specs.Spans.{span_len};
 ghost use Rattle.task_local.specs.Kept.{place_in, source_place, source_len, AreApart, FitsBeside, IsSeenBeside};
 
 use crate::index::RegionIndex;
-use crate::standing::cell_count;
 use rt_base::Span;
 
 /// A part of the copy: its first place, and how many cells it has.
@@ -22,7 +21,7 @@ pub(crate) fn part_of_span(index: &RegionIndex, span: Span) -> Part
 {
     Part {
         at: index.place_of(span.array, span.from),
-        count: cell_count(span),
+        count: span.len() as usize,
     }
 }
 

@@ -6,7 +6,7 @@ ghost use Rattle.rt_base.specs.Spans.{span_len};
 ghost use Rattle.rt_base.specs.Layout.{memory_len};
 ghost use Rattle.rt_base.specs.WellFormed.{WellFormed, IsDeclared, region_cells};
 ghost use Rattle.task_local.specs.Regions.{put, loaded, saved};
-ghost use Rattle.task_local.specs.Standing.{def, at_phase, moved_on, packed_next, Follows, IsAtCall};
+ghost use Rattle.task_local.specs.Standing.{def, at_phase, moved_on, packed_next, GoesTo, IsAtCall};
 
 use crate::compute::{longest_scratch, run_from, sent_cells};
 use crate::index::{RegionIndex, put_cells};
@@ -30,13 +30,13 @@ pub struct TaskRec {
 
 impl Model for TaskRec {
     ghost use Rattle.task_local.specs.StandsFor.{Record};
-    ghost use Rattle.task_local.specs.Kept.{IsKept};
+    ghost use Rattle.task_local.specs.Kept.{KeepsCopy};
 
     ghost Value = { Record };
 
     ghost view = { λ held. record { program = held.program.value; task = held.task.0; phase = held.phase; copy = held.copy.items } };
 
-    ghost invariant = { λ held. IsKept held.program.value held.task.0 held.phase held.regions held.copy.items held.scratch.items };
+    ghost invariant = { λ held. KeepsCopy held.program.value held.task.0 held.phase held.regions held.copy.items held.scratch.items };
 }
 
 impl TaskRec {
@@ -106,8 +106,7 @@ impl TaskRec {
     }
 
     /// Copies the task's cells in from the cells of all arrays of all ranks. Time grows with the cells and the accesses of the
-    /// task, and with the arrays before the last that it names, of this rank and the ranks before: their lengths are summed
-    /// once.
+    /// task: where each array begins is read off the program's table.
     pub fn load(&mut self, prog: &Program, memory: &[i64])
         requires well_formed { WellFormed prog.now }
         requires same { prog.now ≡ self.old.program }
@@ -125,7 +124,7 @@ impl TaskRec {
     }
 
     /// Puts the task's `out` and `inout` cells back into the cells of all arrays of all ranks. Time grows with those cells and
-    /// the accesses of the task, and with the arrays before the last that it writes, as in `load`.
+    /// the accesses of the task.
     pub fn save(&self, prog: &Program, memory: &mut [i64])
         requires well_formed { WellFormed prog.now }
         requires same { prog.now ≡ self.now.program }
@@ -139,7 +138,7 @@ impl TaskRec {
     /// Sets where the task stands, to a phase that follows.
     pub fn go(&mut self, prog: &Program, phase: Phase)
         requires same { prog.now ≡ self.old.program }
-        requires follows { Follows (def self.old) self.old.phase phase }
+        requires follows { GoesTo (def self.old) self.old.phase phase }
         ensures { self.new ≡ record self.old { phase = phase } }
     {
         let _ = prog;

@@ -1,11 +1,10 @@
 //! How a task stands, and where its operations are.
 
 ghost use Rattle.std.specs.Prelude.{◌≡◌, ◌<◌, length, slice_get, Some};
-ghost use Rattle.rt_base.specs.Spans.{span_len};
 ghost use Rattle.task_local.specs.Kept.{IsPhaseOf};
 ghost use Rattle.task_local.specs.Standing.{at_operation, at_phase};
 
-use rt_base::{Op, Phase, Program, Span, TaskDef, TaskNo};
+use rt_base::{Op, Phase, Program, TaskDef, TaskNo};
 
 /// How a task stands.
 #[derive(Clone, Copy, Debug, PartialEq, Eq)]
@@ -61,16 +60,9 @@ pub(crate) fn at_phase_of(def: &TaskDef, phase: Phase) -> At
 fn at_operation_of(op: &Op, k: u32) -> At
     ensures { result ≡ at_operation k (Some op.now) }
 {
-    match op {
-        Op::Compute { .. } => At::Local,
-        Op::Post { .. } => At::Call(k),
-        Op::Await { .. } => At::Call(k),
+    if op.is_local() {
+        At::Local
+    } else {
+        At::Call(k)
     }
-}
-
-// How many cells a span has.
-pub(crate) fn cell_count(span: Span) -> usize
-    ensures { result ≡ span_len span }
-{
-    span.to.saturating_sub(span.from) as usize
 }

@@ -9,7 +9,7 @@ ghost use Rattle.rt_base.specs.declared.data.TagSel.TheVariants as tag;
 ghost use Rattle.rt_base.specs.declared.data.Op.TheVariants as op;
 ghost use Rattle.rt_base.specs.declared.data.Phase.TheVariants as phase;
 ghost use Rattle.rt_base.specs.declared.data.TaskDef.{TaskDef};
-ghost use Rattle.rt_base.specs.Layout.{memory_len};
+ghost use Rattle.rt_base.specs.Layout.{array_count, memory_len, starts_from};
 ghost use Rattle.rt_base.specs.WellFormed.{WellFormed, IsDeclared};
 ghost use Rattle.task_local.specs.Standing.{def_of, IsAtCall};
 ghost use Rattle.task_local.specs.Kept.{TakesCells};
@@ -19,7 +19,7 @@ use crate::parts::Part;
 use crate::{At, TaskRec};
 use rt_base::{
     Access, Accesses, Body, How, Kernel, Lens, Mode, Name, Names, Op, Peer, Phase, Program, Shows,
-    Span, TagSel, TaskDef, TaskNo, Tasks,
+    Span, TagSel, TaskDef, TaskNo, Tasks, starts_of,
 };
 use std::alloc::Global;
 use std::process::Abort;
@@ -378,14 +378,32 @@ fn sample(alloc: Global) -> Result<Program, Fail>
     let first = task_of(alloc, vec![in alloc; ramp()]?)?;
     let second = task_of(alloc, vec![in alloc; shared_copy(), fill_of_no_cell()]?)?;
     let third = task_of(alloc, vec![in alloc; send()]?)?;
+    let program = program_of(alloc, vec![in alloc; first, second, third]?)?;
+    Ok(program)
+}
+
+// The program of these tasks, over one rank with one array of four cells.
+fn program_of(alloc: Global, tasks: Vec<TaskDef>) -> Result<Program, Fail>
+    ensures ranks { IfOk result (λ program. program.ranks ≡ 1) }
+    ensures eager { IfOk result (λ program. program.eager ≡ 0) }
+    ensures comms { IfOk result (λ program. program.comms ≡ 1) }
+    ensures names { IfOk result (λ program. array_count program ≡ 1) }
+    ensures lens { IfOk result (λ program. program.lens.items ≡ 4 ∷ []) }
+    ensures starts { IfOk result (λ program. program.starts.items ≡ starts_from 0 program.lens.items) }
+    ensures shows { IfOk result (λ program. program.shows.items ≡ []) }
+    ensures tasks { IfOk result (λ program. program.tasks.items ≡ tasks.items) }
+{
+    let lens = Lens::from_vec(vec![in alloc; 4_u32]?);
+    let starts = starts_of(alloc, lens.as_slice())?;
     Ok(Program {
         ranks: 1,
         eager: 0,
         comms: 1,
         names: Names::from_vec(vec![in alloc; Name::from_slice(alloc, b"a")?]?),
-        lens: Lens::from_vec(vec![in alloc; 4_u32]?),
+        lens,
+        starts,
         shows: Shows::empty(alloc),
-        tasks: Tasks::from_vec(vec![in alloc; first, second, third]?),
+        tasks: Tasks::from_vec(tasks),
     })
 }
 

@@ -34,7 +34,8 @@ noted_push cs c noted h p is = by (nat_eq p c.place) refl
     by false e = has_more cs c p (h p (sym (get_or-set_other noted c.place p true false (λ same. grind (arith, nat_tests))) ∙ is))
 
 -- the newest change goes, and its place is no longer noted
-pub noted_pop : (cs : List Change) (c : Change) (noted : List Bool) → NotesOnly (cs ++ c ∷ []) noted → c.place < length noted → NotesOnly cs (slice_set noted c.place false)
+pub noted_pop : (cs : List Change) (c : Change) (noted : List Bool) → NotesOnly (cs ++ c ∷ []) noted → c.place < length noted
+    → NotesOnly cs (slice_set noted c.place false)
 noted_pop cs c noted h within p is = by (nat_eq p c.place) refl
   where
     by : (b : Bool) → nat_eq p c.place ≡ b → has_place p cs ≡ true
@@ -45,7 +46,8 @@ noted_pop cs c noted h within p is = by (nat_eq p c.place) refl
         let apart : p ≢ c.place = λ same. grind (arith, nat_tests) in
         has_other cs c p apart (h p (sym (get_or-set_other noted c.place p false false apart) ∙ is))
 
-pub noted_past : (all cs : List Change) (c : Change) (noted : List Bool) → all ≡ cs ++ c ∷ [] → NotesOnly all noted → length noted ≤ c.place → NotesOnly cs noted
+pub noted_past : (all cs : List Change) (c : Change) (noted : List Bool) → all ≡ cs ++ c ∷ [] → NotesOnly all noted → length noted ≤ c.place
+    → NotesOnly cs noted
 noted_past all cs c noted is h past p at =
     let within = noted_within noted p at in
     has_other cs c p (λ e. grind arith) (ap (has_place p) (sym is) ∙ h p at)

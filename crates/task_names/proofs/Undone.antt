@@ -49,10 +49,12 @@ over (c ∷ cs) ns p a b = by (nat_eq p c.place) refl (over cs ns p a)
         → set_value_at (set_value_at (undone cs (set_value_at ns p a)) c.place c.meant) p b ≡ set_value_at (set_value_at (undone cs ns) c.place c.meant) p b
     by true e rest =
         let same : p ≡ c.place = grind (arith, nat_tests) in
-        ap (λ q. set_value_at (set_value_at (undone cs (set_value_at ns p a)) q c.meant) p b) (sym same) ∙ set_twice (undone cs (set_value_at ns p a)) p c.meant b
+        ap (λ q. set_value_at (set_value_at (undone cs (set_value_at ns p a)) q c.meant) p b) (sym same)
+        ∙ set_twice (undone cs (set_value_at ns p a)) p c.meant b
         ∙ rest b ∙ sym (set_twice (undone cs ns) p c.meant b) ∙ ap (λ q. set_value_at (set_value_at (undone cs ns) q c.meant) p b) same
     by false e rest =
-        set_apart (undone cs (set_value_at ns p a)) p c.place c.meant b e ∙ ap (λ ns. set_value_at ns c.place c.meant) (rest b) ∙ sym (set_apart (undone cs ns) p c.place c.meant b e)
+        set_apart (undone cs (set_value_at ns p a)) p c.place c.meant b e ∙ ap (λ ns. set_value_at ns c.place c.meant) (rest b)
+        ∙ sym (set_apart (undone cs ns) p c.place c.meant b e)
 
 -- what a place with a change means doesn't matter
 unseen : (cs : List Change) (ns : Names) (p : ℕ) (a b : Meaning) → has_place p cs ≡ true → undone cs (set_value_at ns p a) ≡ undone cs (set_value_at ns p b)
@@ -79,19 +81,23 @@ pub pushed : (cs : List Change) (c : Change) → IsNoted c cs (cs ++ c ∷ [])
 pushed cs c names next = undone_push cs c (set_value_at names c.place next) ∙ ap (undone cs) (set_twice names c.place next c.meant)
 
 -- one change is undone
-pub popped : (all cs : List Change) (c : Change) (n : ℕ) (ns more before : Names) → all ≡ cs ++ c ∷ [] → more ≡ set_value_at ns c.place c.meant → undone all (take n ns) ≡ before
+pub popped : (all cs : List Change) (c : Change) (n : ℕ) (ns more before : Names) → all ≡ cs ++ c ∷ [] → more ≡ set_value_at ns c.place c.meant
+    → undone all (take n ns) ≡ before
     → undone cs (take n more) ≡ before
 popped all cs c n ns more before all_is more_is h =
-    ap (λ t. undone cs (take n t)) more_is ∙ ap (undone cs) (take_set n ns c.place c.meant) ∙ sym (undone_push cs c (take n ns)) ∙ ap (λ t. undone t (take n ns)) (sym all_is) ∙ h
+    ap (λ t. undone cs (take n t)) more_is ∙ ap (undone cs) (take_set n ns c.place c.meant) ∙ sym (undone_push cs c (take n ns))
+    ∙ ap (λ t. undone t (take n ns)) (sym all_is) ∙ h
 
 -- a change that was noted first leaves what the names meant before
 pub changed : (old new : List Change) (c : Change) (n : ℕ) (ns : Names) (m : Meaning) → IsNoted c old new → MeansNow ns c
     → undone new (take n (set_value_at ns c.place m)) ≡ undone old (take n ns)
 changed old new c n ns m noted now =
-    ap (undone new) (take_set n ns c.place m) ∙ noted (take n ns) m ∙ ap (undone old) (sym (take_set n ns c.place c.meant) ∙ ap (take n) (set_same ns c.place now.0 c.meant now.1))
+    ap (undone new) (take_set n ns c.place m) ∙ noted (take n ns) m
+    ∙ ap (undone old) (sym (take_set n ns c.place c.meant) ∙ ap (take n) (set_same ns c.place now.0 c.meant now.1))
 
 -- a new name goes last
-kept_front : (ns : Names) (name : List ℕ) (m : Meaning) (n : ℕ) → lookup (bytes_eq name) ns ≡ None → n ≤ length ns → take n (insert_entry bytes_eq ns name m) ≡ take n ns
+kept_front : (ns : Names) (name : List ℕ) (m : Meaning) (n : ℕ) → lookup (bytes_eq name) ns ≡ None → n ≤ length ns
+    → take n (insert_entry bytes_eq ns name m) ≡ take n ns
 kept_front ns name m zero none h = refl
 kept_front [] name m (suc n) none h = absurd (omega arith)
 kept_front (e ∷ ns) name m (suc n) none h = by (bytes_eq name e.0) refl (λ more. kept_front ns name m n more (omega arith))
@@ -102,7 +108,8 @@ kept_front (e ∷ ns) name m (suc n) none h = by (bytes_eq name e.0) refl (λ mo
     by false is rest = grind arith
 
 -- a known name keeps its place
-pub inserted : (ns : Names) (name : List ℕ) (m : Meaning) (p : ℕ) → position (bytes_eq name) (keys_of ns) ≡ Some p → insert_entry bytes_eq ns name m ≡ set_value_at ns p m
+pub inserted : (ns : Names) (name : List ℕ) (m : Meaning) (p : ℕ) → position (bytes_eq name) (keys_of ns) ≡ Some p
+    → insert_entry bytes_eq ns name m ≡ set_value_at ns p m
 inserted ns name m p is = insert_entry-first bytes_eq name m ns p (Found-position (bytes_eq name) ns p is).first
 
 -- a write keeps the number of names

@@ -7,7 +7,7 @@ pub enum Meaning {
     Variable(i64),
     /// The array of this number.
     Array(u16),
-    /// The communicator of this number; 0 is world, which has no name (MPI 4.0, 6.2).
+    /// The communicator of this number; 0 is world, which has no name (MPI 4.0, 7.2).
     Communicator(u16),
     /// A handle of the task's nth request, which no wait has named yet (MPI 4.0, 3.7).
     Posted(u32),

@@ -74,7 +74,8 @@ placed_fits (what.Posting how handle span peer tag comm status) blocks = passed_
 placed_fits (what.Waiting later handles status) blocks = passed_fits (what.Waiting later handles status) blocks
 
 -- the only fault of a place
-fault_of : (blocks : List OpenBlock) (more less : ℕ) (read : Result (List OpenBlock) FaultKind) (kind : FaultKind) → Fits blocks more less read → read ≡ Err kind → kind ≡ fault.Place
+fault_of : (blocks : List OpenBlock) (more less : ℕ) (read : Result (List OpenBlock) FaultKind) (kind : FaultKind) → Fits blocks more less read
+    → read ≡ Err kind → kind ≡ fault.Place
 fault_of blocks more less (Ok behind) kind f e = absurd cc
 fault_of blocks more less (Err other) kind f e = cc
 
@@ -94,7 +95,8 @@ one_counted blocks behind s stmts (Ok last) one c =
     omega (arith, one, c, less, more)
 one_counted blocks behind s stmts (Err kind) one c = tt
 
-step_counted : (blocks : List OpenBlock) (s : Stmt) (stmts : List Stmt) (read : Result (List OpenBlock) FaultKind) → Fits blocks (cond (opens s.what) 1 0) (cond (ends s.what) 1 0) read
+step_counted : (blocks : List OpenBlock) (s : Stmt) (stmts : List Stmt) (read : Result (List OpenBlock) FaultKind)
+    → Fits blocks (cond (opens s.what) 1 0) (cond (ends s.what) 1 0) read
     → ((behind : List OpenBlock) → Counted behind stmts (run behind stmts)) → Counted blocks (s ∷ stmts) (read >>= λ behind. run behind stmts)
 step_counted blocks s stmts (Ok behind) f more = one_counted blocks behind s stmts (run behind stmts) f (more behind)
 step_counted blocks s stmts (Err kind) f more = tt
@@ -102,7 +104,8 @@ step_counted blocks s stmts (Err kind) f more = tt
 counted : (stmts : List Stmt) (blocks : List OpenBlock) → Counted blocks stmts (run blocks stmts)
 counted [] blocks = refl
 counted (s ∷ stmts) blocks =
-    chosen (λ read. Counted blocks (s ∷ stmts) (read >>= λ behind. run behind stmts)) (is_too_deep 0 s.what blocks) (Err fault.Depth) (placed s.what blocks) (λ _. tt)
+    chosen (λ read. Counted blocks (s ∷ stmts) (read >>= λ behind. run behind stmts)) (is_too_deep 0 s.what blocks) (Err fault.Depth) (placed s.what blocks)
+    (λ _. tt)
     (λ _. step_counted blocks s stmts (placed s.what blocks) (placed_fits s.what blocks) (λ behind. counted stmts behind))
 
 pub open_count : (stmts : List Stmt) (blocks : List OpenBlock) → run [] stmts ≡ Ok blocks → length blocks + ending stmts ≡ opening stmts

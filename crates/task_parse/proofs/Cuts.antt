@@ -27,7 +27,8 @@ HasLen most (Ok t) = (0 < t.1) × (t.1 ≤ most)
 HasLen most (Err f) = Unit {0}
 
 -- what is cut off a text by a test that its first byte passes has a byte, and no more than the text
-front_len : (p : ℕ → Bool) (byte : ℕ) (bytes : List ℕ) → p byte ≡ true → (0 < length (take_while p (byte ∷ bytes))) × (length (take_while p (byte ∷ bytes)) ≤ length (byte ∷ bytes))
+front_len : (p : ℕ → Bool) (byte : ℕ) (bytes : List ℕ) → p byte ≡ true
+    → (0 < length (take_while p (byte ∷ bytes))) × (length (take_while p (byte ∷ bytes)) ≤ length (byte ∷ bytes))
 front_len p byte bytes h =
     let e : length (take_while p (byte ∷ bytes)) ≡ prefix_len p (byte ∷ bytes) = length-prefix_len p (byte ∷ bytes) in
     let f : prefix_len p (byte ∷ bytes) ≡ 1 + prefix_len p bytes = rw h refl in
@@ -92,13 +93,17 @@ blanks_end (byte ∷ bytes) =
 pub blanks_shorten : (line : List ℕ) → length (after_blanks line) ≤ length line
 blanks_shorten [] = omega arith
 blanks_shorten (byte ∷ bytes) =
-    chosen (λ x. length x ≤ length (byte ∷ bytes)) (is_blank byte) (after_blanks bytes) (byte ∷ bytes) (λ _. omega (arith, blanks_shorten bytes)) (λ _. omega arith)
+    chosen (λ x. length x ≤ length (byte ∷ bytes)) (is_blank byte) (after_blanks bytes) (byte ∷ bytes) (λ _. omega (
+      arith,
+      blanks_shorten bytes,
+    )) (λ _. omega arith)
 
 -- the tokens that a first token begins
 abbrev pub begun : List ℕ → Result (Token × ℕ) FaultKind → Result (List Token) FaultKind
 begun text read = read >>= λ t. with_front (t.0 ∷ []) (tokens_behind 0 (drop t.1 text))
 
-step : (byte : ℕ) (bytes : List ℕ) (most : ℕ) (read : Result (Token × ℕ) FaultKind) → HasLen most read → (read >>= λ t. with_front (t.0 ∷ []) (tokens_behind (t.1 - 1) bytes)) ≡ begun (byte ∷ bytes) read
+step : (byte : ℕ) (bytes : List ℕ) (most : ℕ) (read : Result (Token × ℕ) FaultKind) → HasLen most read
+    → (read >>= λ t. with_front (t.0 ∷ []) (tokens_behind (t.1 - 1) bytes)) ≡ begun (byte ∷ bytes) read
 step byte bytes most (Ok (token, zero)) h = absurd (omega arith)
 step byte bytes most (Ok (token, suc len)) h =
     let e : suc len - 1 ≡ len = omega arith in
@@ -109,15 +114,20 @@ step byte bytes most (Err f) h = refl
 next_cut : (line : List ℕ) → is_over (after_blanks line) ≡ false → tokens_behind 0 line ≡ begun (after_blanks line) (first_token (after_blanks line))
 next_cut [] = λ h. absurd cc
 next_cut (byte ∷ bytes) =
-    elim (is_blank byte) as (λ v. is_over (cond v (after_blanks bytes) (byte ∷ bytes)) ≡ false → cond v (tokens_behind 0 bytes) (cond (byte == 35) (Ok []) (first_token (byte ∷ bytes) >>= λ t. with_front (t.0 ∷ []) (tokens_behind (t.1 - 1) bytes))) ≡ begun (cond v (after_blanks bytes) (byte ∷ bytes)) (first_token (cond v (after_blanks bytes) (byte ∷ bytes)))) [
+    elim (is_blank byte) as (λ v. is_over (cond v (after_blanks bytes) (byte ∷ bytes)) ≡ false
+    → cond v (tokens_behind 0 bytes) (cond (byte == 35) (Ok []) (first_token (byte ∷ bytes) >>= λ t. with_front (t.0 ∷ []) (tokens_behind (t.1 - 1) bytes)))
+    ≡ begun (cond v (after_blanks bytes) (byte ∷ bytes)) (first_token (cond v (after_blanks bytes) (byte ∷ bytes)))) [
       | true ↦ (λ h. next_cut bytes h)
-      | false ↦ (λ h. chosen (λ x. x ≡ begun (byte ∷ bytes) (first_token (byte ∷ bytes))) (byte == 35) _ _ (λ e. absurd cc) (λ _. step byte bytes _ _ (token_len (byte ∷ bytes))))
+      | false ↦ (λ h. chosen (λ x. x
+          ≡ begun (byte ∷ bytes) (first_token (byte ∷ bytes))) (byte == 35) _ _ (λ e. absurd cc) (λ _. step byte bytes _ _ (token_len (byte ∷ bytes))))
     ]
 
 last_cut : (line : List ℕ) → is_over (after_blanks line) ≡ true → tokens_behind 0 line ≡ Ok []
 last_cut [] = λ h. refl
 last_cut (byte ∷ bytes) =
-    elim (is_blank byte) as (λ v. is_over (cond v (after_blanks bytes) (byte ∷ bytes)) ≡ true → cond v (tokens_behind 0 bytes) (cond (byte == 35) (Ok []) (first_token (byte ∷ bytes) >>= λ t. with_front (t.0 ∷ []) (tokens_behind (t.1 - 1) bytes))) ≡ Ok []) [
+    elim (is_blank byte) as (λ v. is_over (cond v (after_blanks bytes) (byte ∷ bytes)) ≡ true
+    → cond v (tokens_behind 0 bytes) (cond (byte == 35) (Ok []) (first_token (byte ∷ bytes) >>= λ t. with_front (t.0 ∷ []) (tokens_behind (t.1 - 1) bytes)))
+    ≡ Ok []) [
       | true ↦ (λ h. last_cut bytes h)
       | false ↦ (λ h. chosen (λ x. x ≡ Ok []) (byte == 35) _ _ (λ _. refl) (λ e. absurd cc))
     ]
@@ -125,29 +135,35 @@ last_cut (byte ∷ bytes) =
 pub begins : (line : List ℕ) → tokens_of line ≡ with_front [] (tokens_of line)
 begins line = sym (front_none (tokens_of line))
 
-pub goes_on : (whole : Result (List Token) FaultKind) (front : List Token) (line rest : List ℕ) (token : Token) (len : ℕ) → whole ≡ with_front front (tokens_of line) → rest ≡ after_blanks line → is_over rest ≡ false → first_token rest ≡ Ok (token, len) → whole ≡ with_front (front ++ token ∷ []) (tokens_of (drop len rest))
+pub goes_on : (whole : Result (List Token) FaultKind) (front : List Token) (line rest : List ℕ) (token : Token) (len : ℕ)
+    → whole ≡ with_front front (tokens_of line) → rest ≡ after_blanks line → is_over rest ≡ false → first_token rest ≡ Ok (token, len)
+    → whole ≡ with_front (front ++ token ∷ []) (tokens_of (drop len rest))
 unfolding tokens_of
 goes_on whole front line rest token len e d h f =
     let cut : tokens_behind 0 line ≡ begun rest (first_token rest) = rw d (next_cut line (rw d at h)) in
     e ∙ ap (with_front front) (cut ∙ ap (begun rest) f) ∙ front_more front (token ∷ []) (tokens_behind 0 (drop len rest))
 
-pub ends : (whole : Result (List Token) FaultKind) (front : List Token) (line rest : List ℕ) → whole ≡ with_front front (tokens_of line) → rest ≡ after_blanks line → is_over rest ≡ true → whole ≡ Ok front
+pub ends : (whole : Result (List Token) FaultKind) (front : List Token) (line rest : List ℕ) → whole ≡ with_front front (tokens_of line)
+    → rest ≡ after_blanks line → is_over rest ≡ true → whole ≡ Ok front
 unfolding tokens_of
 ends whole front line rest e d h = e ∙ ap (with_front front) (last_cut line (rw d at h)) ∙ ap Ok (append-nil front)
 
-pub fails : (whole : Result (List Token) FaultKind) (front : List Token) (line rest : List ℕ) (kind : FaultKind) → whole ≡ with_front front (tokens_of line) → rest ≡ after_blanks line → is_over rest ≡ false → first_token rest ≡ Err kind → whole ≡ Err kind
+pub fails : (whole : Result (List Token) FaultKind) (front : List Token) (line rest : List ℕ) (kind : FaultKind) → whole ≡ with_front front (tokens_of line)
+    → rest ≡ after_blanks line → is_over rest ≡ false → first_token rest ≡ Err kind → whole ≡ Err kind
 unfolding tokens_of
 fails whole front line rest kind e d h f =
     let cut : tokens_behind 0 line ≡ begun rest (first_token rest) = rw d (next_cut line (rw d at h)) in
     e ∙ ap (with_front front) (cut ∙ ap (begun rest) f)
 
 -- a refusal of the first token is one of the line
-pub refused : (refusal : LineRefusal) (whole : Result (List Token) FaultKind) (front : List Token) (line rest : List ℕ) → whole ≡ with_front front (tokens_of line) → rest ≡ after_blanks line → is_over rest ≡ false → Fails refusal (first_token rest) → Fails refusal whole
+pub refused : (refusal : LineRefusal) (whole : Result (List Token) FaultKind) (front : List Token) (line rest : List ℕ)
+    → whole ≡ with_front front (tokens_of line) → rest ≡ after_blanks line → is_over rest ≡ false → Fails refusal (first_token rest) → Fails refusal whole
 refused variant.Memory whole front line rest e d h f = tt
 refused (variant.Fault kind) whole front line rest e d h f = fails whole front line rest kind e d h f
 
 -- each token makes what is left shorter
-pub shorter : (line rest behind : List ℕ) (token : Token) (len : ℕ) → first_token rest ≡ Ok (token, len) → length rest ≤ length line → behind ≡ drop len rest → length behind < length line
+pub shorter : (line rest behind : List ℕ) (token : Token) (len : ℕ) → first_token rest ≡ Ok (token, len) → length rest ≤ length line → behind ≡ drop len rest
+    → length behind < length line
 shorter line rest behind token len f h e =
     let above = len_above rest token len f in
     let within = len_within rest token len f in

@@ -1,5 +1,5 @@
 -- Each line that is read has one of the forms of statement.
-use Rattle.std.proofs.Common.{◌≡◌, ℕ, ◌-◌, ◌≤◌, min, nat_lt, Bool, true, false, cond, List, [], ◌∷◌, length, Result, Err, refl, sym, subst, arith, append-nil}
+use Rattle.std.proofs.Common.{◌≡◌, ℕ, ◌≤◌, min, nat_lt, Bool, true, false, cond, List, [], ◌∷◌, length, Result, Err, refl, sym, subst, arith, append-nil}
 use Rattle.std.proofs.lemmas.Bool.Decides.{nat_tests}
 use Rattle.rt_base.specs.declared.data.FaultKind.{FaultKind}
 use Rattle.rt_base.specs.declared.data.FaultKind.TheVariants as fault
@@ -9,6 +9,7 @@ use Rattle.rt_base.specs.declared.data.How.{How}
 use Rattle.rt_base.specs.declared.data.How.TheVariants as how
 use Rattle.rt_base.specs.declared.data.Kernel.{Kernel}
 use Rattle.rt_base.specs.declared.data.Kernel.TheVariants as kernel
+use Rattle.rt_base.specs.KernelForms.{source_count, number_count}
 use Rattle.task_tree.specs.declared.key.Key.{Key}
 use Rattle.task_tree.specs.declared.key.Key.TheVariants as key
 use Rattle.task_tree.specs.declared.token.Token.{Token}
@@ -16,7 +17,7 @@ use Rattle.task_tree.specs.declared.token.Token.TheVariants as token
 use Rattle.task_tree.specs.declared.tree.What.{What}
 use Rattle.task_tree.specs.declared.tree.What.TheVariants as what
 use Rattle.task_tree.specs.Reading.{◌>>=◌}
-use Rattle.task_parse.specs.Statements.{IsStatement, IsStatement as form, access_key, call_key, wait_key, waitall_key, kernel_key, span_count, value_count, listed}
+use Rattle.task_parse.specs.Statements.{IsStatement, IsStatement as form, access_key, call_key, wait_key, waitall_key, kernel_key, listed}
 use Rattle.task_parse.specs.ReadingsOfParts.{Left}
 use Rattle.task_parse.specs.ReadingsOfOperands.{status_at}
 use Rattle.task_parse.specs.ReadingsOfLines.{whole, array_line, show_line, comm_line, let_line, for_line, if_line, touch_line, kernel_line, posting_line, wait_line, waitall_line}
@@ -24,7 +25,7 @@ use Rattle.task_parse.specs.Readings.{operation, line, statement}
 use Rattle.task_parse.proofs.PartLemmas.{Gets, then_name, then_comma, then_dots, then_set, then_value, then_span}
 use Rattle.task_parse.proofs.OperandLemmas.{then_peer, then_tag, then_handle, then_on, then_status, then_own_status}
 use Rattle.task_parse.proofs.ListLemmas.{then_names, then_spans, then_values}
-use Rattle.task_parse.proofs.FormsRead.{once, twice, four_times, one_span, kernel_as}
+use Rattle.task_parse.proofs.FormsRead.{once, twice, four_times, kernel_as}
 
 -- the tokens have the form of a statement, at this depth
 pub record Says (tokens : List Token) (s : What × ℕ) : Type 0 where
@@ -32,7 +33,8 @@ pub record Says (tokens : List Token) (s : What × ℕ) : Type 0 where
   pub spelled : IsStatement depth tokens s.0
   pub cap : s.1 ≡ min depth 65
 
-says : {d : ℕ} {spelled : List Token} {said : What} (tokens : List Token) (capped : ℕ) → IsStatement d spelled said → tokens ≡ spelled → capped ≡ min d 65 → Says tokens (said, capped)
+says : {d : ℕ} {spelled : List Token} {said : What} (tokens : List Token) (capped : ℕ) → IsStatement d spelled said → tokens ≡ spelled → capped ≡ min d 65
+    → Says tokens (said, capped)
 says {d} {spelled} {said} tokens capped i e c = record { depth = d; spelled = subst (λ ts. IsStatement d ts said) (sym e) i; cap = c }
 
 whole_found : (Q : What × ℕ → Type 0) (said : What) (x : Left) → (x.0 ≡ [] → Q (said, x.1)) → Gets Q (whole said x)
@@ -108,10 +110,10 @@ kernel_found : (name : Kernel) (ts : List Token) → Gets (Says (token.Key (kern
 kernel_found name ts =
     let Q : What × ℕ → Type 0 = Says (token.Key (kernel_key name) ∷ ts) in
     subst (Gets Q) (sym (kernel_as name (ts, 0))) (
-    then_spans Q (span_count name - 1) (ts, 0) _ (λ spans n a.
-    then_values Q (value_count name) spans.1 _ (λ values m b.
+    then_spans Q (source_count name) (ts, 0) _ (λ spans n a.
+    then_values Q (number_count name) spans.1 _ (λ values m b.
     whole_found Q (what.Kern name (listed spans.0) (listed values.0)) values.1 (λ c.
-    says _ _ (form.computing name a.spelled (omega (arith, one_span name)) b.spelled m) (rw (a.whole, b.whole, c, append-nil) refl)
+    says _ _ (form.computing name a.spelled (omega (arith, n)) b.spelled m) (rw (a.whole, b.whole, c, append-nil) refl)
     (rw (b.deep, a.deep) (twice a.depth b.depth))))))
 
 posting_found : (call : How) (ts : List Token) → Gets (Says (token.Key (call_key call) ∷ ts)) (posting_line call (ts, 0))
@@ -141,7 +143,8 @@ wait_found later ts =
     says _ _ (form.wait later name.0 b.spelled) (rw (a.tokens, b.whole, c, append-nil) refl) (rw (b.deep, a.same) (once b.depth)))))
 
 -- the test of the number of names, and then the next step
-then_few : {B C : Type 0} (Q : C → Type 0) (n : ℕ) (b : Bool) (r : Result B FaultKind) (f : B → Result C FaultKind) → nat_lt 64 n ≡ b → (n ≤ 64 → Gets Q (r >>= f)) → Gets Q ((cond b (Err fault.Shape) r) >>= f)
+then_few : {B C : Type 0} (Q : C → Type 0) (n : ℕ) (b : Bool) (r : Result B FaultKind) (f : B → Result C FaultKind) → nat_lt 64 n ≡ b
+    → (n ≤ 64 → Gets Q (r >>= f)) → Gets Q ((cond b (Err fault.Shape) r) >>= f)
 then_few Q n true r f e next = refl
 then_few Q n false r f e next = next (grind (arith, nat_tests))
 

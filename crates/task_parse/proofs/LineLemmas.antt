@@ -13,7 +13,9 @@ line_cut : (text : List ℕ) → first_len text < length text → lines_of text 
 line_cut [] = λ h. absurd (omega arith)
 line_cut (byte ∷ bytes) =
     let n = first_len bytes in
-    elim (byte == 10) as (λ v. cond (not v) (1 + n) 0 < length (byte ∷ bytes) → cond v ([] ∷ lines_of bytes) (onto_line byte (lines_of bytes)) ≡ take (cond (not v) (1 + n) 0) (byte ∷ bytes) ∷ lines_of (drop (cond (not v) (1 + n) 0 + 1) (byte ∷ bytes))) [
+    elim (byte == 10) as (λ v. cond (not v) (1 + n) 0 < length (byte ∷ bytes)
+    → cond v ([] ∷ lines_of bytes) (onto_line byte (lines_of bytes))
+    ≡ take (cond (not v) (1 + n) 0) (byte ∷ bytes) ∷ lines_of (drop (cond (not v) (1 + n) 0 + 1) (byte ∷ bytes))) [
       | true ↦ (λ h. refl)
       | false ↦ (λ h.
           let below : n < length bytes = omega arith in
@@ -29,7 +31,8 @@ line_all (byte ∷ []) =
     [ true ↦ (λ h p. absurd (omega arith)) | false ↦ (λ h p. refl) ]
 line_all (byte ∷ next ∷ bytes) =
     let n = first_len (next ∷ bytes) in
-    elim (byte == 10) as (λ v. length (byte ∷ next ∷ bytes) ≤ cond (not v) (1 + n) 0 → 0 < length (byte ∷ next ∷ bytes) → cond v ([] ∷ lines_of (next ∷ bytes)) (onto_line byte (lines_of (next ∷ bytes))) ≡ (byte ∷ next ∷ bytes) ∷ []) [
+    elim (byte == 10) as (λ v. length (byte ∷ next ∷ bytes) ≤ cond (not v) (1 + n) 0 → 0 < length (byte ∷ next ∷ bytes)
+    → cond v ([] ∷ lines_of (next ∷ bytes)) (onto_line byte (lines_of (next ∷ bytes))) ≡ (byte ∷ next ∷ bytes) ∷ []) [
       | true ↦ (λ h p. absurd (omega arith))
       | false ↦ (λ h p.
           let above : length (next ∷ bytes) ≤ n = omega arith in
@@ -41,6 +44,7 @@ pub first_line_is : (text : List ℕ) (len : ℕ) → len ≡ first_len text →
 first_line_is text len e h = rw e (line_cut text (rw e at h))
 
 -- the first line, where no LF ends it
-pub last_line_is : (text rest : List ℕ) (len : ℕ) → len ≡ first_len text → length text ≤ len → 0 < length text → length rest ≡ 0 → lines_of text ≡ text ∷ lines_of rest
+pub last_line_is : (text rest : List ℕ) (len : ℕ) → len ≡ first_len text → length text ≤ len → 0 < length text → length rest ≡ 0
+    → lines_of text ≡ text ∷ lines_of rest
 last_line_is text [] len e h p z = line_all text (rw e at h) p
 last_line_is text (byte ∷ bytes) len e h p z = absurd (omega arith)

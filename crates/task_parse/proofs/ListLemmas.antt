@@ -21,23 +21,27 @@ all_names done (token.Name name ∷ tokens) = names_behind (done ++ name ∷ [])
 all_names done tokens = (done, tokens)
 
 -- names, as they are spelled, go on behind a comma
-behind_comma : {ts : List Token} {ns : List (List ℕ)} (done : List (List ℕ)) (rest : List Token) → AreNames ts ns → names_behind done (token.Sign sign.Comma ∷ (ts ++ rest)) ≡ all_names done (ts ++ rest)
+behind_comma : {ts : List Token} {ns : List (List ℕ)} (done : List (List ℕ)) (rest : List Token) → AreNames ts ns
+    → names_behind done (token.Sign sign.Comma ∷ (ts ++ rest)) ≡ all_names done (ts ++ rest)
 unfolding names_behind
 behind_comma done rest (names.one name) = refl
 behind_comma done rest (names.more name are) = refl
 
-all_read : {ts : List Token} {ns : List (List ℕ)} (done : List (List ℕ)) (rest : List Token) → comma_name rest ≡ None → AreNames ts ns → all_names done (ts ++ rest) ≡ (done ++ ns, rest)
+all_read : {ts : List Token} {ns : List (List ℕ)} (done : List (List ℕ)) (rest : List Token) → comma_name rest ≡ None → AreNames ts ns
+    → all_names done (ts ++ rest) ≡ (done ++ ns, rest)
 all_read done rest h (names.one name) = no_more_names (done ++ name ∷ []) rest h
 all_read done rest h (names.more {ts} {names = ns} name are) =
     behind_comma (done ++ name ∷ []) rest are ∙ all_read (done ++ name ∷ []) rest h are ∙ ap (λ l. (l, rest)) (append_assoc done (name ∷ []) ns)
 
 -- the first name, and the names behind it, are all names
-first_read : {ts : List Token} {ns : List (List ℕ)} (rest : List Token) (k : ℕ) → AreNames ts ns → names_at (ts ++ rest, k) ≡ Ok ((all_names [] (ts ++ rest)).0, ((all_names [] (ts ++ rest)).1, k))
+first_read : {ts : List Token} {ns : List (List ℕ)} (rest : List Token) (k : ℕ) → AreNames ts ns
+    → names_at (ts ++ rest, k) ≡ Ok ((all_names [] (ts ++ rest)).0, ((all_names [] (ts ++ rest)).1, k))
 unfolding names_at name_at
 first_read rest k (names.one name) = refl
 first_read rest k (names.more name are) = refl
 
-pub names_read : {ns : List (List ℕ)} (front rest : List Token) (k : ℕ) → comma_name rest ≡ None → AreNames front ns → names_at (front ++ rest, k) ≡ Ok (ns, (rest, k))
+pub names_read : {ns : List (List ℕ)} (front rest : List Token) (k : ℕ) → comma_name rest ≡ None → AreNames front ns
+    → names_at (front ++ rest, k) ≡ Ok (ns, (rest, k))
 names_read front rest k h are = first_read rest k are ∙ ap (λ (p : List (List ℕ) × List Token). Ok (p.0, (p.1, k))) (all_read [] rest h are)
 
 -- names so far, and more at the front of the tokens
@@ -80,7 +84,8 @@ then_names Q x f next = then (HasNames x) Q (names_at x) f (names_found x) next
 abbrev pub all_spans : List SpanText → ℕ → Left → Result (List SpanText × Left) FaultKind
 all_spans done n x = span_at x >>= λ first. more_of next_span (done ++ first.0 ∷ []) n first.1
 
-pub spans_read : (n : ℕ) {d : ℕ} {ss : List SpanText} (done : List SpanText) (front rest : List Token) (k : ℕ) → AreSpans d front ss → length ss ≡ n + 1 → all_spans done n (front ++ rest, k) ≡ Ok (done ++ ss, (rest, grown k d))
+pub spans_read : (n : ℕ) {d : ℕ} {ss : List SpanText} (done : List SpanText) (front rest : List Token) (k : ℕ) → AreSpans d front ss → length ss ≡ n + 1
+    → all_spans done n (front ++ rest, k) ≡ Ok (done ++ ss, (rest, grown k d))
 unfolding more_of next_span comma_at
 spans_read zero done front rest k (spans.one {d} {ts} {span} i) e = rw (span_read ts rest k i) refl
 spans_read (suc n) done front rest k (spans.one {d} {ts} {span} i) e = absurd (omega arith)
@@ -101,7 +106,13 @@ spans_found : (done : List SpanText) (n : ℕ) (x : Left) → Gets (MoreSpans do
 unfolding more_of next_span
 spans_found done zero x =
     then_span (MoreSpans done 1 x) x _ (λ first a.
-    record { more = first.0 ∷ []; spans = refl; counted = refl; stands = record { front = a.front; depth = a.depth; whole = a.whole; spelled = spans.one a.spelled; deep = a.deep } })
+    record {
+      more = first.0 ∷ [];
+      spans = refl;
+      counted = refl;
+      stands =
+          record { front = a.front; depth = a.depth; whole = a.whole; spelled = spans.one a.spelled; deep = a.deep };
+    })
 spans_found done (suc n) x =
     let Q = MoreSpans done (suc n + 1) x in
     then_span Q x _ (λ first a.
@@ -124,13 +135,22 @@ spans_found done (suc n) x =
 pub then_spans : {B : Type 0} (Q : B → Type 0) (n : ℕ) (x : Left) (f : List SpanText × Left → Result B FaultKind)
     → ((y : List SpanText × Left) → (length y.0 ≡ n + 1) → Stands (λ d ts. AreSpans d ts y.0) x y.1 → Gets Q (f y)) → Gets Q (all_spans [] n x >>= f)
 then_spans Q n x f next = then (MoreSpans [] (n + 1) x) Q (all_spans [] n x) f (spans_found [] n x) (λ y m.
-    next y (ap length m.spans ∙ m.counted) (record { front = m.stands.front; depth = m.stands.depth; whole = m.stands.whole; spelled = rw m.spans m.stands.spelled; deep = m.stands.deep }))
+    next y (ap length m.spans
+    ∙ m.counted) (record {
+      front = m.stands.front;
+      depth = m.stands.depth;
+      whole = m.stands.whole;
+      spelled = rw m.spans m.stands.spelled;
+      deep =
+          m.stands.deep;
+    }))
 
 values_end : {d : ℕ} {ts : List Token} {es : List Term} (rest : List Token) → ends rest ≡ true → AreValues d ts es → ends (ts ++ rest) ≡ true
 values_end rest h values.none = h
 values_end rest h (values.more i are) = refl
 
-pub values_read : (n : ℕ) {d : ℕ} {es : List Term} (done : List Term) (front rest : List Token) (k : ℕ) → ends rest ≡ true → AreValues d front es → length es ≡ n → more_of next_value done n (front ++ rest, k) ≡ Ok (done ++ es, (rest, grown k d))
+pub values_read : (n : ℕ) {d : ℕ} {es : List Term} (done : List Term) (front rest : List Token) (k : ℕ) → ends rest ≡ true → AreValues d front es
+    → length es ≡ n → more_of next_value done n (front ++ rest, k) ≡ Ok (done ++ es, (rest, grown k d))
 unfolding more_of next_value comma_at
 values_read zero done front rest k h values.none e = rw append-nil (ap (λ m. Ok (done, (rest, m))) (grown_none k))
 values_read (suc n) done front rest k h values.none e = absurd (omega arith)
@@ -149,13 +169,20 @@ record MoreValues (done : List Term) (count : ℕ) (x : Left) (found : List Term
 values_found : (done : List Term) (n : ℕ) (x : Left) → Gets (MoreValues done n x) (more_of next_value done n x)
 unfolding more_of next_value
 values_found done zero x =
-    record { more = []; values = sym (append-nil done); counted = refl; stands = record { front = []; depth = 0; whole = refl; spelled = values.none; deep = grown_none x.1 } }
+    record {
+      more = [];
+      values = sym (append-nil done);
+      counted = refl;
+      stands =
+          record { front = []; depth = 0; whole = refl; spelled = values.none; deep = grown_none x.1 };
+    }
 values_found done (suc n) x =
     let Q = MoreValues done (suc n) x in
     regrouped Q (comma_at x) value_at _ (
     then_comma Q x _ (λ comma a.
     then_value Q comma _ (λ value b.
-    weaker (MoreValues (done ++ value.0 ∷ []) n value.1) Q (more_of next_value (done ++ value.0 ∷ []) n value.1) (values_found (done ++ value.0 ∷ []) n value.1) (λ y f.
+    weaker (MoreValues (done ++ value.0 ∷ []) n value.1) Q (more_of next_value (done ++ value.0 ∷ []) n value.1)
+    (values_found (done ++ value.0 ∷ []) n value.1) (λ y f.
     record {
       more = value.0 ∷ f.more;
       values = f.values ∙ append_assoc done (value.0 ∷ []) f.more;
@@ -172,4 +199,12 @@ values_found done (suc n) x =
 pub then_values : {B : Type 0} (Q : B → Type 0) (n : ℕ) (x : Left) (f : List Term × Left → Result B FaultKind)
     → ((y : List Term × Left) → (length y.0 ≡ n) → Stands (λ d ts. AreValues d ts y.0) x y.1 → Gets Q (f y)) → Gets Q (more_of next_value [] n x >>= f)
 then_values Q n x f next = then (MoreValues [] n x) Q (more_of next_value [] n x) f (values_found [] n x) (λ y m.
-    next y (ap length m.values ∙ m.counted) (record { front = m.stands.front; depth = m.stands.depth; whole = m.stands.whole; spelled = rw m.values m.stands.spelled; deep = m.stands.deep }))
+    next y (ap length m.values
+    ∙ m.counted) (record {
+      front = m.stands.front;
+      depth = m.stands.depth;
+      whole = m.stands.whole;
+      spelled = rw m.values m.stands.spelled;
+      deep =
+          m.stands.deep;
+    }))

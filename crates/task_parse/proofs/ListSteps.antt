@@ -35,16 +35,20 @@ stepped next items n i x h =
     ap (λ k. more_of next items k x) e
 
 -- one item more
-pub one_more : {T : Type 0} (whole : Result (List T × Left) FaultKind) (next : Left → Result (T × Left) FaultKind) (items : List T) (n i : ℕ) (x y : Left) (item : T)
+pub one_more : {T : Type 0} (whole : Result (List T × Left) FaultKind) (next : Left
+    → Result (T × Left) FaultKind) (items : List T) (n i : ℕ) (x y : Left) (item : T)
     → whole ≡ more_of next items (n - i) x → i < n → next x ≡ Ok (item, y) → whole ≡ more_of next (items ++ item ∷ []) (n - (i + 1)) y
-one_more whole next items n i x y item e h r = e ∙ stepped next items n i x h ∙ ap (λ s. s >>= λ item. more_of next (items ++ item.0 ∷ []) (n - (i + 1)) item.1) r
+one_more whole next items n i x y item e h r = e ∙ stepped next items n i x h
+    ∙ ap (λ s. s >>= λ item. more_of next (items ++ item.0 ∷ []) (n - (i + 1)) item.1) r
 
-fails : {T : Type 0} (whole : Result (List T × Left) FaultKind) (next : Left → Result (T × Left) FaultKind) (items : List T) (n i : ℕ) (x : Left) (kind : FaultKind)
+fails : {T : Type 0} (whole : Result (List T × Left) FaultKind) (next : Left
+    → Result (T × Left) FaultKind) (items : List T) (n i : ℕ) (x : Left) (kind : FaultKind)
     → whole ≡ more_of next items (n - i) x → i < n → next x ≡ Err kind → whole ≡ Err kind
 fails whole next items n i x kind e h r = e ∙ stepped next items n i x h ∙ ap (λ s. s >>= λ item. more_of next (items ++ item.0 ∷ []) (n - (i + 1)) item.1) r
 
 -- a refusal of an item is one of the list
-pub refused : {T : Type 0} (refusal : LineRefusal) (whole : Result (List T × Left) FaultKind) (next : Left → Result (T × Left) FaultKind) (items : List T) (n i : ℕ) (x : Left)
+pub refused : {T : Type 0} (refusal : LineRefusal) (whole : Result (List T × Left) FaultKind) (next : Left
+    → Result (T × Left) FaultKind) (items : List T) (n i : ℕ) (x : Left)
     → whole ≡ more_of next items (n - i) x → i < n → Fails refusal (next x) → Fails refusal whole
 refused variant.Memory whole next items n i x e h r = tt
 refused (variant.Fault kind) whole next items n i x e h r = fails whole next items n i x kind e h r

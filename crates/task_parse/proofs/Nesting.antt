@@ -22,7 +22,8 @@ along : {A B : Type 0} (P Q : A → Result B FaultKind) (read : Result A FaultKi
 along P Q (Ok x) same = same x
 along P Q (Err kind) same = refl
 
-regrouped : {A B C : Type 0} (P : A → Result B FaultKind) (Q : B → Result C FaultKind) (read : Result A FaultKind) → ((read >>= P) >>= Q) ≡ (read >>= λ x. P x >>= Q)
+regrouped : {A B C : Type 0} (P : A → Result B FaultKind) (Q : B → Result C FaultKind) (read : Result A FaultKind)
+    → ((read >>= P) >>= Q) ≡ (read >>= λ x. P x >>= Q)
 regrouped P Q (Ok x) = refl
 regrouped P Q (Err kind) = refl
 
@@ -37,7 +38,8 @@ room_for : (n : ℕ) → n < 64 → nat_le 64 n ≡ false
 room_for n h = grind (arith, nat_tests)
 
 -- a statement that is a line by itself changes no open block
-plain_step : (p : Place) (blocks : List OpenBlock) (said : What) → is_plain said ≡ true → stands p said ≡ true → spot blocks ≡ p → is_head blocks ≡ false → next 0 said blocks ≡ Ok blocks
+plain_step : (p : Place) (blocks : List OpenBlock) (said : What) → is_plain said ≡ true → stands p said ≡ true → spot blocks ≡ p → is_head blocks ≡ false
+    → next 0 said blocks ≡ Ok blocks
 plain_step p blocks (what.Array name len) a b e h = rw (h, e, b) refl
 plain_step p blocks (what.Show name) a b e h = rw (h, e, b) refl
 plain_step p blocks (what.Comm name) a b e h = rw (h, e, b) refl
@@ -54,7 +56,8 @@ plain_step p blocks (what.Kern kernel spans values) a b e h = rw (h, e, b) refl
 plain_step p blocks (what.Posting how handle span peer tag comm status) a b e h = rw (h, e, b) refl
 plain_step p blocks (what.Waiting later handles status) a b e h = rw (h, e, b) refl
 
-loop_step : (blocks : List OpenBlock) (name : List ℕ) (from to : Term) → length blocks < 64 → is_head blocks ≡ false → next 0 (what.For name from to) blocks ≡ Ok (block.Loop ∷ blocks)
+loop_step : (blocks : List OpenBlock) (name : List ℕ) (from to : Term) → length blocks < 64 → is_head blocks ≡ false
+    → next 0 (what.For name from to) blocks ≡ Ok (block.Loop ∷ blocks)
 loop_step blocks name from to l h = rw (room_for (length blocks) l, h) refl
 
 when_step : (blocks : List OpenBlock) (test : Term) → length blocks < 64 → is_head blocks ≡ false → next 0 (what.If test) blocks ≡ Ok (block.When ∷ blocks)
@@ -64,12 +67,14 @@ task_step : (p : Place) (blocks : List OpenBlock) → length blocks < 64 → spo
 task_step p blocks l e m = rw (room_for (length blocks) l, e, m) refl
 
 -- access lines leave the head of a task open
-accesses_step : (blocks : List OpenBlock) (accesses : List AccessLine) (rest : List Stmt) → run (block.Head ∷ blocks) (map access_stmt accesses ++ rest) ≡ run (block.Head ∷ blocks) rest
+accesses_step : (blocks : List OpenBlock) (accesses : List AccessLine) (rest : List Stmt)
+    → run (block.Head ∷ blocks) (map access_stmt accesses ++ rest) ≡ run (block.Head ∷ blocks) rest
 accesses_step blocks [] rest = refl
 accesses_step blocks (access ∷ accesses) rest = accesses_step blocks accesses rest
 
 -- what is nested goes through
-pub through : (b : Block) (k : ℕ) (p : Place) (blocks : List OpenBlock) (rest : List Stmt) → Nested k p b → spot blocks ≡ p → is_head blocks ≡ false → k + length blocks ≤ 64
+pub through : (b : Block) (k : ℕ) (p : Place) (blocks : List OpenBlock) (rest : List Stmt) → Nested k p b → spot blocks ≡ p → is_head blocks ≡ false
+    → k + length blocks ≤ 64
     → run blocks (written b ++ rest) ≡ run blocks rest
 through Done k p blocks rest n e h l = refl
 through (Plain line said plain more) k p blocks rest n e h l =
@@ -95,7 +100,8 @@ through (Choice line test body middle other last more) (suc k) p blocks rest n e
     rw (
       when_step blocks test (omega arith) h,
       append_assoc (written body) (stmt middle what.Else ∷ (written other ++ (stmt last what.End ∷ written more))) rest,
-      through body k (within p) (block.When ∷ blocks) (stmt middle what.Else ∷ ((written other ++ (stmt last what.End ∷ written more)) ++ rest)) n.0 (ap within e) refl (omega arith),
+      through body k (within p) (block.When ∷ blocks) (stmt middle what.Else ∷ ((written other ++ (stmt last what.End ∷ written more)) ++ rest)) n.0
+          (ap within e) refl (omega arith),
       append_assoc (written other) (stmt last what.End ∷ written more) rest,
       through other k (within p) (block.Otherwise ∷ blocks) (stmt last what.End ∷ (written more ++ rest)) n.1 (ap within e) refl (omega arith),
     )
@@ -160,7 +166,8 @@ goes_on k (block.Head ∷ around) h = absurd cc
 goes_on k (block.Body ∷ around) h = record { ends = Ends (Rest (suc k) around); from = λ stmts r. r; to = λ stmts r. r }
 
 -- a statement before the innermost block's others
-with_plain : (k : ℕ) (p : Place) (P : List Stmt → Type 0) (line : ℕ) (said : What) (plain : is_plain said ≡ true) (stmts : List Stmt) → stands p said ≡ true → Inside k p P stmts
+with_plain : (k : ℕ) (p : Place) (P : List Stmt → Type 0) (line : ℕ) (said : What) (plain : is_plain said ≡ true) (stmts : List Stmt) → stands p said ≡ true
+    → Inside k p P stmts
     → Inside k p P (stmt line said ∷ stmts)
 with_plain k p P line said plain stmts stand (b, tail, e, n, q) = (Plain line said plain b, tail, ap (λ x. stmt line said ∷ x) e, (stand, n), q)
 
@@ -168,10 +175,12 @@ with_plain k p P line said plain stmts stand (b, tail, e, n, q) = (Plain line sa
 joined : (body tail ending more : List Stmt) (stmts : List Stmt) → stmts ≡ body ++ tail → tail ≡ ending ++ more → stmts ≡ (body ++ ending) ++ more
 joined body tail ending more stmts e f = e ∙ ap (λ x. body ++ x) f ∙ sym (append_assoc body ending more)
 
-ended_by : (last : ℕ) (rest tail stmts : List Stmt) (b : Block) → stmts ≡ stmt last what.End ∷ rest → rest ≡ written b ++ tail → stmts ≡ (stmt last what.End ∷ written b) ++ tail
+ended_by : (last : ℕ) (rest tail stmts : List Stmt) (b : Block) → stmts ≡ stmt last what.End ∷ rest → rest ≡ written b ++ tail
+    → stmts ≡ (stmt last what.End ∷ written b) ++ tail
 ended_by last rest tail stmts b e f = e ∙ ap (λ x. stmt last what.End ∷ x) f
 
-with_loop : (k : ℕ) (p : Place) (P R : List Stmt → Type 0) (line : ℕ) (name : List ℕ) (from to : Term) (stmts : List Stmt) → ((rest : List Stmt) → R rest → Inside (suc k) p P rest)
+with_loop : (k : ℕ) (p : Place) (P R : List Stmt → Type 0) (line : ℕ) (name : List ℕ) (from to : Term) (stmts : List Stmt)
+    → ((rest : List Stmt) → R rest → Inside (suc k) p P rest)
     → Inside k (within p) (Ends R) stmts → Inside (suc k) p P (stmt line (what.For name from to) ∷ stmts)
 with_loop k p P R line name from to stmts goes (body, tail, e, n, (last, rest, f, r)) =
     let inside = goes rest r in
@@ -179,7 +188,8 @@ with_loop k p P R line name from to stmts goes (body, tail, e, n, (last, rest, f
     joined (written body) tail (stmt last what.End ∷ written inside.0) inside.1 stmts e (ended_by last rest inside.1 tail inside.0 f inside.2) in
     (Loop line name from to body last inside.0, inside.1, ap (λ x. stmt line (what.For name from to) ∷ x) whole, (n, inside.3), inside.4)
 
-with_when : (k : ℕ) (p : Place) (P R : List Stmt → Type 0) (line : ℕ) (test : Term) (stmts : List Stmt) → ((rest : List Stmt) → R rest → Inside (suc k) p P rest)
+with_when : (k : ℕ) (p : Place) (P R : List Stmt → Type 0) (line : ℕ) (test : Term) (stmts : List Stmt)
+    → ((rest : List Stmt) → R rest → Inside (suc k) p P rest)
     → Inside k (within p) (λ x. Ends R x ⊎ Parts (Inside k (within p) (Ends R)) x) stmts → Inside (suc k) p P (stmt line (what.If test) ∷ stmts)
 with_when k p P R line test stmts goes (body, tail, e, n, inl (last, rest, f, r)) =
     let inside = goes rest r in
@@ -190,19 +200,22 @@ with_when k p P R line test stmts goes (body, tail, e, n, inr (middle, more, f, 
     let inside = goes rest r in
     let second : more ≡ (written other ++ (stmt last what.End ∷ written inside.0)) ++ inside.1 =
     joined (written other) next (stmt last what.End ∷ written inside.0) inside.1 more g (ended_by last rest inside.1 next inside.0 h inside.2) in
-    let parted : tail ≡ (stmt middle what.Else ∷ (written other ++ (stmt last what.End ∷ written inside.0))) ++ inside.1 = f ∙ ap (λ x. stmt middle what.Else ∷ x) second in
+    let parted : tail ≡ (stmt middle what.Else ∷ (written other ++ (stmt last what.End ∷ written inside.0))) ++ inside.1 = f
+    ∙ ap (λ x. stmt middle what.Else ∷ x) second in
     let whole : stmts ≡ (written body ++ (stmt middle what.Else ∷ (written other ++ (stmt last what.End ∷ written inside.0)))) ++ inside.1 =
     joined (written body) tail (stmt middle what.Else ∷ (written other ++ (stmt last what.End ∷ written inside.0))) inside.1 stmts e parted in
     (Choice line test body middle other last inside.0, inside.1, ap (λ x. stmt line (what.If test) ∷ x) whole, (n, m, inside.3), inside.4)
 
-with_work : (k : ℕ) (p : Place) (P R : List Stmt → Type 0) (line : ℕ) (stmts : List Stmt) → is_main p ≡ true → ((rest : List Stmt) → R rest → Inside (suc k) p P rest)
+with_work : (k : ℕ) (p : Place) (P R : List Stmt → Type 0) (line : ℕ) (stmts : List Stmt) → is_main p ≡ true
+    → ((rest : List Stmt) → R rest → Inside (suc k) p P rest)
     → Begins (Inside k Body (Ends R)) stmts → Inside (suc k) p P (stmt line what.Task ∷ stmts)
 with_work k p P R line stmts main goes (accesses, middle, more, f, (body, tail, e, n, (last, rest, h, r))) =
     let inside = goes rest r in
     let second : more ≡ (written body ++ (stmt last what.End ∷ written inside.0)) ++ inside.1 =
     joined (written body) tail (stmt last what.End ∷ written inside.0) inside.1 more e (ended_by last rest inside.1 tail inside.0 h inside.2) in
     let whole : stmts ≡ (map access_stmt accesses ++ (stmt middle what.Do ∷ (written body ++ (stmt last what.End ∷ written inside.0)))) ++ inside.1 =
-    joined (map access_stmt accesses) (stmt middle what.Do ∷ more) (stmt middle what.Do ∷ (written body ++ (stmt last what.End ∷ written inside.0))) inside.1 stmts f (ap (λ x. stmt middle what.Do ∷ x) second) in
+    joined (map access_stmt accesses) (stmt middle what.Do ∷ more) (stmt middle what.Do ∷ (written body ++ (stmt last what.End ∷ written inside.0))) inside.1
+    stmts f (ap (λ x. stmt middle what.Do ∷ x) second) in
     (Work line accesses middle body last inside.0, inside.1, ap (λ x. stmt line what.Task ∷ x) whole, (main, n, inside.3), inside.4)
 
 -- what stands behind a line stands with it
@@ -222,17 +235,26 @@ main_no_head (block.Body ∷ around) m = refl
 fewer : (n : ℕ) → nat_le 64 n ≡ false → n < 64
 fewer n h = grind (arith, nat_tests)
 
-back_passed : (k : ℕ) (blocks : List OpenBlock) (line : ℕ) (said : What) (stmts : List Stmt) → is_plain said ≡ true → k + length blocks ≡ 64 → Back k blocks line said stmts (passed said blocks)
+back_passed : (k : ℕ) (blocks : List OpenBlock) (line : ℕ) (said : What) (stmts : List Stmt) → is_plain said ≡ true → k + length blocks ≡ 64
+    → Back k blocks line said stmts (passed said blocks)
 back_passed k blocks line said stmts plain room =
     chosen (Back k blocks line said stmts) (is_head blocks) _ _ (λ _. tt) (λ outside.
     chosen (Back k blocks line said stmts) (stands (spot blocks) said) _ _
-    (λ stand. (k, room, λ r. let on = goes_on k blocks outside in on.to (stmt line said ∷ stmts) (with_plain k (spot blocks) on.ends line said plain stmts stand (on.from stmts r))))
+    (λ stand. (
+      k,
+      room,
+      λ r. let on = goes_on k blocks outside in
+          on.to (stmt line said ∷ stmts) (with_plain k (spot blocks) on.ends line said plain stmts stand (on.from stmts r)),
+    ))
     (λ _. tt))
 
 back_loop : (k : ℕ) (blocks : List OpenBlock) (line : ℕ) (name : List ℕ) (from to : Term) (stmts : List Stmt) → k + length blocks ≡ 64
     → Back k blocks line (what.For name from to) stmts (next 0 (what.For name from to) blocks)
 back_loop zero blocks line name from to stmts room =
-    chosen (Back zero blocks line (what.For name from to) stmts) (nat_le 64 (length blocks)) _ _ (λ _. tt) (λ few. absurd (omega (arith, fewer (length blocks) few)))
+    chosen (Back zero blocks line (what.For name from to) stmts) (nat_le 64 (length blocks)) _ _ (λ _. tt) (λ few. absurd (omega (
+      arith,
+      fewer (length blocks) few,
+    )))
 back_loop (suc k) blocks line name from to stmts room =
     chosen (Back (suc k) blocks line (what.For name from to) stmts) (nat_le 64 (length blocks)) _ _ (λ _. tt) (λ few.
     chosen (Back (suc k) blocks line (what.For name from to) stmts) (is_head blocks) _ _ (λ _. tt) (λ outside. (
@@ -257,7 +279,8 @@ back_when (suc k) blocks line test stmts room =
           on.to (stmt line (what.If test) ∷ stmts) (with_when k (spot blocks) on.ends (Rest (suc k) blocks) line test stmts on.from r),
     )))
 
-back_task : (k : ℕ) (blocks : List OpenBlock) (line : ℕ) (stmts : List Stmt) → k + length blocks ≡ 64 → Back k blocks line what.Task stmts (next 0 what.Task blocks)
+back_task : (k : ℕ) (blocks : List OpenBlock) (line : ℕ) (stmts : List Stmt) → k + length blocks ≡ 64
+    → Back k blocks line what.Task stmts (next 0 what.Task blocks)
 back_task zero blocks line stmts room =
     chosen (Back zero blocks line what.Task stmts) (nat_le 64 (length blocks)) _ _ (λ _. tt) (λ few. absurd (omega (arith, fewer (length blocks) few)))
 back_task (suc k) blocks line stmts room =
@@ -288,7 +311,8 @@ back_ended k (block.Otherwise ∷ around) line stmts room = (suc k, omega arith,
 back_ended k (block.Head ∷ around) line stmts room = tt
 back_ended k (block.Body ∷ around) line stmts room = (suc k, omega arith, λ r. (Done, stmt line what.End ∷ stmts, refl, tt, (line, stmts, refl, r)))
 
-with_access : (k : ℕ) (P : List Stmt → Type 0) (line : ℕ) (mode : Mode) (span : SpanText) (stmts : List Stmt) → Begins P stmts → Begins P (stmt line (what.Touch mode span) ∷ stmts)
+with_access : (k : ℕ) (P : List Stmt → Type 0) (line : ℕ) (mode : Mode) (span : SpanText) (stmts : List Stmt) → Begins P stmts
+    → Begins P (stmt line (what.Touch mode span) ∷ stmts)
 with_access k P line mode span stmts (accesses, middle, tail, e, q) =
     (record { line = line; mode = mode; span = span } ∷ accesses, middle, tail, ap (λ x. stmt line (what.Touch mode span) ∷ x) e, q)
 
@@ -298,7 +322,11 @@ back_accessed k [] line mode span stmts room = tt
 back_accessed k (block.Loop ∷ around) line mode span stmts room = tt
 back_accessed k (block.When ∷ around) line mode span stmts room = tt
 back_accessed k (block.Otherwise ∷ around) line mode span stmts room = tt
-back_accessed k (block.Head ∷ around) line mode span stmts room = (k, room, λ r. with_access k (Inside k Body (Ends (Rest (suc k) around))) line mode span stmts r)
+back_accessed k (block.Head ∷ around) line mode span stmts room = (
+  k,
+  room,
+  λ r. with_access k (Inside k Body (Ends (Rest (suc k) around))) line mode span stmts r,
+)
 back_accessed k (block.Body ∷ around) line mode span stmts room = tt
 
 back_begun : (k : ℕ) (blocks : List OpenBlock) (line : ℕ) (stmts : List Stmt) → k + length blocks ≡ 64 → Back k blocks line what.Do stmts (begun blocks)
@@ -309,7 +337,8 @@ back_begun k (block.Otherwise ∷ around) line stmts room = tt
 back_begun k (block.Head ∷ around) line stmts room = (k, room, λ r. ([], line, stmts, refl, r))
 back_begun k (block.Body ∷ around) line stmts room = tt
 
-back : (k : ℕ) (blocks : List OpenBlock) (line : ℕ) (said : What) (stmts : List Stmt) → k + length blocks ≡ 64 → Back k blocks line said stmts (next 0 said blocks)
+back : (k : ℕ) (blocks : List OpenBlock) (line : ℕ) (said : What) (stmts : List Stmt) → k + length blocks ≡ 64
+    → Back k blocks line said stmts (next 0 said blocks)
 back k blocks line (what.Array name len) stmts room = back_passed k blocks line (what.Array name len) stmts refl room
 back k blocks line (what.Show name) stmts room = back_passed k blocks line (what.Show name) stmts refl room
 back k blocks line (what.Comm name) stmts room = back_passed k blocks line (what.Comm name) stmts refl room
@@ -323,7 +352,8 @@ back k blocks line what.Task stmts room = back_task k blocks line stmts room
 back k blocks line (what.Touch mode span) stmts room = back_accessed k blocks line mode span stmts room
 back k blocks line what.Do stmts room = back_begun k blocks line stmts room
 back k blocks line (what.Kern kernel spans values) stmts room = back_passed k blocks line (what.Kern kernel spans values) stmts refl room
-back k blocks line (what.Posting how handle span peer tag comm status) stmts room = back_passed k blocks line (what.Posting how handle span peer tag comm status) stmts refl room
+back k blocks line (what.Posting how handle span peer tag comm status) stmts room =
+    back_passed k blocks line (what.Posting how handle span peer tag comm status) stmts refl room
 back k blocks line (what.Waiting later handles status) stmts room = back_passed k blocks line (what.Waiting later handles status) stmts refl room
 
 -- what leaves no block open goes on to the end
@@ -332,21 +362,24 @@ Whole k blocks stmts (Ok []) = Rest k blocks stmts
 Whole k blocks stmts (Ok (inner ∷ around)) = Unit {0}
 Whole k blocks stmts (Err kind) = Unit {0}
 
-one_back : (k j : ℕ) (blocks behind : List OpenBlock) (s : Stmt) (stmts : List Stmt) (read : Result (List OpenBlock) FaultKind) → (Rest j behind stmts → Rest k blocks (s ∷ stmts)) → Whole j behind stmts read
+one_back : (k j : ℕ) (blocks behind : List OpenBlock) (s : Stmt) (stmts : List Stmt) (read : Result (List OpenBlock) FaultKind)
+    → (Rest j behind stmts → Rest k blocks (s ∷ stmts)) → Whole j behind stmts read
     → Whole k blocks (s ∷ stmts) read
 one_back k j blocks behind s stmts (Ok []) goes w = goes w
 one_back k j blocks behind s stmts (Ok (inner ∷ around)) goes w = tt
 one_back k j blocks behind s stmts (Err kind) goes w = tt
 
 step_back : (k : ℕ) (blocks : List OpenBlock) (s : Stmt) (stmts : List Stmt) (read : Result (List OpenBlock) FaultKind) → Back k blocks s.line s.what stmts read
-    → ((j : ℕ) (behind : List OpenBlock) → j + length behind ≡ 64 → Whole j behind stmts (run behind stmts)) → Whole k blocks (s ∷ stmts) (read >>= λ behind. run behind stmts)
+    → ((j : ℕ) (behind : List OpenBlock) → j + length behind ≡ 64 → Whole j behind stmts (run behind stmts))
+    → Whole k blocks (s ∷ stmts) (read >>= λ behind. run behind stmts)
 step_back k blocks s stmts (Ok behind) (j, room, goes) more = one_back k j blocks behind s stmts (run behind stmts) goes (more j behind room)
 step_back k blocks s stmts (Err kind) b more = tt
 
 all_back : (stmts : List Stmt) (k : ℕ) (blocks : List OpenBlock) → k + length blocks ≡ 64 → Whole k blocks stmts (run blocks stmts)
 all_back [] k [] room = (Done, [], refl, tt, refl)
 all_back [] k (inner ∷ around) room = tt
-all_back (s ∷ stmts) k blocks room = step_back k blocks s stmts (next 0 s.what blocks) (back k blocks s.line s.what stmts room) (λ j behind r. all_back stmts j behind r)
+all_back (s ∷ stmts) k blocks room =
+    step_back k blocks s stmts (next 0 s.what blocks) (back k blocks s.line s.what stmts room) (λ j behind r. all_back stmts j behind r)
 
 -- statements that leave no block open are those of nested blocks
 pub run_nested : (stmts : List Stmt) → run [] stmts ≡ Ok [] → AreNested stmts
@@ -373,8 +406,11 @@ run_closing (block.Body ∷ around) = run_closing around
 
 -- whatever was read so far can be closed
 pub can_go_on : (stmts : List Stmt) (blocks : List OpenBlock) → run [] stmts ≡ Ok blocks → CanGoOn stmts
-can_go_on stmts blocks e =
-    (closing blocks, run_nested (stmts ++ closing blocks) (run_append [] stmts (closing blocks) ∙ ap (λ read. read >>= λ behind. run behind (closing blocks)) e ∙ run_closing blocks))
+can_go_on stmts blocks e = (
+  closing blocks,
+  run_nested (stmts ++ closing blocks) (run_append [] stmts (closing blocks)
+      ∙ ap (λ read. read >>= λ behind. run behind (closing blocks)) e ∙ run_closing blocks),
+)
 
 pub first_ok : {A B : Type 0} (read : Result A FaultKind) (more : A → Result B FaultKind) (y : B) → (read >>= more) ≡ Ok y → (x : A) × (read ≡ Ok x)
 first_ok (Ok x) more y e = (x, refl)

@@ -11,7 +11,8 @@ number_grows value [] = omega arith
 number_grows value (digit ∷ digits) = omega (arith, number_grows (value * 10 + (digit - 48)) digits)
 
 -- one digit more
-pub one_more : (value i : ℕ) (digits : List ℕ) → i < length digits → number_from value (drop i digits) ≡ number_from (value * 10 + (get_or digits i 0 - 48)) (drop (i + 1) digits)
+pub one_more : (value i : ℕ) (digits : List ℕ) → i < length digits
+    → number_from value (drop i digits) ≡ number_from (value * 10 + (get_or digits i 0 - 48)) (drop (i + 1) digits)
 one_more value i digits h = at_drop_more (number_from value) digits i 0 h
 
 -- a number whose front is past the range is past it

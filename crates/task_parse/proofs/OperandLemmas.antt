@@ -46,7 +46,8 @@ wordless (is.minus i) = refl
 wordless (is.two {c} {d} {xs} {ys} s o i j) = wordless_front xs _ (wordless i)
 wordless (is.up i) = wordless i
 
-peer_value : (call : How) (ts : List Token) (k : ℕ) → is_wordless ts ≡ true → peer_at call (ts, k) ≡ (value_at (ts, k) >>= λ value. Ok (peer.At value.0, value.1))
+peer_value : (call : How) (ts : List Token) (k : ℕ) → is_wordless ts ≡ true
+    → peer_at call (ts, k) ≡ (value_at (ts, k) >>= λ value. Ok (peer.At value.0, value.1))
 unfolding peer_at
 peer_value call [] k h = absurd cc
 peer_value call (token.Key key.Any ∷ ts) k h = absurd cc
@@ -60,42 +61,54 @@ tag_value call (token.Key key.Any ∷ ts) k h = absurd cc
 tag_value call (token.Key key.Null ∷ ts) k h = absurd cc
 tag_value call (t ∷ ts) k h = refl
 
-pub peer_read : {call : How} {d : ℕ} {p : PeerText} (front rest : List Token) (k : ℕ) → IsPeer call d front p → ends rest ≡ true → peer_at call (front ++ rest, k) ≡ Ok (p, (rest, grown k d))
+pub peer_read : {call : How} {d : ℕ} {p : PeerText} (front rest : List Token) (k : ℕ) → IsPeer call d front p → ends rest ≡ true
+    → peer_at call (front ++ rest, k) ≡ Ok (p, (rest, grown k d))
 unfolding peer_at
-peer_read front rest k (is_peer.at {call} {d} {ts} {e} i) h = peer_value call (ts ++ rest) k (wordless_front ts rest (wordless i)) ∙ rw (value_read ts rest k i h) refl
+peer_read front rest k (is_peer.at {call} {d} {ts} {e} i) h = peer_value call (ts ++ rest) k (wordless_front ts rest (wordless i))
+    ∙ rw (value_read ts rest k i h) refl
 peer_read front rest k (is_peer.any r) h = rw r (ap (λ n. Ok (peer.Any, (rest, n))) (grown_none k))
 peer_read front rest k is_peer.null h = ap (λ n. Ok (peer.Null, (rest, n))) (grown_none k)
 
-pub tag_read : {call : How} {d : ℕ} {n : TagText} (front rest : List Token) (k : ℕ) → IsTag call d front n → ends rest ≡ true → tag_at call (front ++ rest, k) ≡ Ok (n, (rest, grown k d))
+pub tag_read : {call : How} {d : ℕ} {n : TagText} (front rest : List Token) (k : ℕ) → IsTag call d front n → ends rest ≡ true
+    → tag_at call (front ++ rest, k) ≡ Ok (n, (rest, grown k d))
 unfolding tag_at
-tag_read front rest k (is_tag.at {call} {d} {ts} {e} i) h = tag_value call (ts ++ rest) k (wordless_front ts rest (wordless i)) ∙ rw (value_read ts rest k i h) refl
+tag_read front rest k (is_tag.at {call} {d} {ts} {e} i) h = tag_value call (ts ++ rest) k (wordless_front ts rest (wordless i))
+    ∙ rw (value_read ts rest k i h) refl
 tag_read front rest k (is_tag.any r) h = rw r (ap (λ n. Ok (tag.Any, (rest, n))) (grown_none k))
 
-pub handle_read : {call : How} {handle : Option (List ℕ)} (front rest : List Token) (k : ℕ) → IsHandle call front handle → handle_at call (front ++ rest, k) ≡ Ok (handle, (rest, k))
+pub handle_read : {call : How} {handle : Option (List ℕ)} (front rest : List Token) (k : ℕ) → IsHandle call front handle
+    → handle_at call (front ++ rest, k) ≡ Ok (handle, (rest, k))
 unfolding named_handle name_at comma_at
 handle_read front rest k (is_handle.none b) = rw b refl
 handle_read front rest k (is_handle.some name b) = rw b refl
 
 -- a status at the end of the line
-pub status_last : {d : ℕ} {status : Option SpanText} (front : List Token) (k : ℕ) → IsStatus d front status → status_at (front, k) ≡ Ok (status, ([], grown k d))
+pub status_last : {d : ℕ} {status : Option SpanText} (front : List Token) (k : ℕ) → IsStatus d front status
+    → status_at (front, k) ≡ Ok (status, ([], grown k d))
 unfolding status_at
 status_last front k is_status.none = ap (λ n. Ok (None, ([], n))) (grown_none k)
 status_last front k (is_status.some {d} {ts} {span} i) = rw (span_last ts k i) refl
 
-pub own_status_last : {call : How} {d : ℕ} {status : Option SpanText} (front : List Token) (k : ℕ) → HasStatus call d front status → own_status_at call (front, k) ≡ Ok (status, ([], grown k d))
+pub own_status_last : {call : How} {d : ℕ} {status : Option SpanText} (front : List Token) (k : ℕ) → HasStatus call d front status
+    → own_status_at call (front, k) ≡ Ok (status, ([], grown k d))
 unfolding status_at
 own_status_last front k (own_status.none {call}) =
-    elim (has_status call) as (λ v. cond v (status_at ([], k)) (Ok (None, ([], k))) ≡ Ok (None, ([], grown k 0))) [ true ↦ ap (λ n. Ok (None, ([], n))) (grown_none k) | false ↦ ap (λ n. Ok (None, ([], n))) (grown_none k) ]
+    elim (has_status call) as (λ v. cond v (status_at ([], k)) (Ok (None, ([], k))) ≡ Ok (
+      None,
+      ([], grown k 0),
+    )) [ true ↦ ap (λ n. Ok (None, ([], n))) (grown_none k) | false ↦ ap (λ n. Ok (None, ([], n))) (grown_none k) ]
 own_status_last front k (own_status.some {call} {d} {ts} {span} h i) = rw (h, span_last ts k i) refl
 
 -- a communicator, before the end of the line or a status
-pub on_read : {call : How} {d : ℕ} {comm : Option (List ℕ)} {status : Option SpanText} (front last : List Token) (k : ℕ) → IsOn front comm → HasStatus call d last status → on_at (front ++ last, k) ≡ Ok (comm, (last, k))
+pub on_read : {call : How} {d : ℕ} {comm : Option (List ℕ)} {status : Option SpanText} (front last : List Token) (k : ℕ) → IsOn front comm
+    → HasStatus call d last status → on_at (front ++ last, k) ≡ Ok (comm, (last, k))
 unfolding on_at name_at
 on_read front last k is_on.world own_status.none = refl
 on_read front last k is_on.world (own_status.some h i) = refl
 on_read front last k (is_on.on name) s = refl
 
-pub tail_ends : {call : How} {d : ℕ} {comm : Option (List ℕ)} {status : Option SpanText} (front last : List Token) → IsOn front comm → HasStatus call d last status → ends (front ++ last) ≡ true
+pub tail_ends : {call : How} {d : ℕ} {comm : Option (List ℕ)} {status : Option SpanText} (front last : List Token) → IsOn front comm
+    → HasStatus call d last status → ends (front ++ last) ≡ true
 tail_ends front last is_on.world own_status.none = refl
 tail_ends front last is_on.world (own_status.some h i) = refl
 tail_ends front last (is_on.on name) s = refl
@@ -131,7 +144,8 @@ peer_value_found call x =
     then_value (HasPeer call x) x _ (λ value a.
     record { front = a.front; depth = a.depth; whole = a.whole; spelled = is_peer.at a.spelled; deep = a.deep })
 
-any_peer_found : (call : How) (ts : List Token) (k : ℕ) (b : Bool) → is_receive call ≡ b → Gets (HasPeer call (token.Key key.Any ∷ ts, k)) (cond b (Ok (peer.Any, (ts, k))) (Err fault.Shape))
+any_peer_found : (call : How) (ts : List Token) (k : ℕ) (b : Bool) → is_receive call ≡ b
+    → Gets (HasPeer call (token.Key key.Any ∷ ts, k)) (cond b (Ok (peer.Any, (ts, k))) (Err fault.Shape))
 any_peer_found call ts k true r = record { front = token.Key key.Any ∷ []; depth = 0; whole = refl; spelled = is_peer.any r; deep = grown_none k }
 any_peer_found call ts k false r = refl
 
@@ -150,7 +164,8 @@ tag_value_found call x =
     then_value (HasTag call x) x _ (λ value a.
     record { front = a.front; depth = a.depth; whole = a.whole; spelled = is_tag.at a.spelled; deep = a.deep })
 
-any_tag_found : (call : How) (ts : List Token) (k : ℕ) (b : Bool) → is_receive call ≡ b → Gets (HasTag call (token.Key key.Any ∷ ts, k)) (cond b (Ok (tag.Any, (ts, k))) (Err fault.Shape))
+any_tag_found : (call : How) (ts : List Token) (k : ℕ) (b : Bool) → is_receive call ≡ b
+    → Gets (HasTag call (token.Key key.Any ∷ ts, k)) (cond b (Ok (tag.Any, (ts, k))) (Err fault.Shape))
 any_tag_found call ts k true r = record { front = token.Key key.Any ∷ []; depth = 0; whole = refl; spelled = is_tag.any r; deep = grown_none k }
 any_tag_found call ts k false r = refl
 
@@ -169,7 +184,13 @@ named_found call x b =
     let Q : Option (List ℕ) × Left → Type 0 = HasHandle call x in
     then_name Q x _ (λ name n.
     then_comma Q name.1 _ (λ rest c.
-    record { front = token.Name name.0 ∷ token.Sign sign.Comma ∷ []; whole = rw (n.tokens, c.tokens) refl; spelled = is_handle.some name.0 b; same = c.same ∙ n.same }))
+    record {
+      front = token.Name name.0 ∷ token.Sign sign.Comma ∷ [];
+      whole = rw (n.tokens, c.tokens) refl;
+      spelled = is_handle.some name.0 b;
+      same = c.same
+          ∙ n.same;
+    }))
 
 handle_as : (call : How) (x : Left) (b : Bool) → blocks call ≡ b → Gets (HasHandle call x) (cond b (Ok (None, x)) (named_handle x))
 handle_as call x true b = record { front = []; whole = refl; spelled = is_handle.none b; same = refl }

@@ -28,7 +28,8 @@ pub grown_none : (k : ℕ) → k ≡ grown k 0
 grown_none k = omega arith
 
 -- a value, as it is spelled, is read
-pub value_read : {d : ℕ} {e : Term} (front rest : List Token) (k : ℕ) → Is 0 d front e → ends rest ≡ true → value_at (front ++ rest, k) ≡ Ok (e, (rest, grown k d))
+pub value_read : {d : ℕ} {e : Term} (front rest : List Token) (k : ℕ) → Is 0 d front e → ends rest ≡ true
+    → value_at (front ++ rest, k) ≡ Ok (e, (rest, grown k d))
 unfolding value_at
 value_read front rest k i h = rw (is_read front rest i h) refl
 
@@ -40,7 +41,13 @@ value_last front k i = rw (append-nil front) at (value_read front [] k i refl)
 pub span_read : {d : ℕ} {s : SpanText} (front rest : List Token) (k : ℕ) → IsSpan d front s → span_at (front ++ rest, k) ≡ Ok (s, (rest, grown k d))
 unfolding span_at name_at open_at dots_at close_at
 span_read front rest k (span.span {c} {d} {xs} {ys} {from} {to} name i j) =
-    rw (append_assoc, value_read xs (token.Sign sign.Dots ∷ ((ys ++ token.Sign sign.CloseSquare ∷ []) ++ rest)) k i refl, append_assoc, value_read ys (token.Sign sign.CloseSquare ∷ rest) (grown k c) j refl, grown_twice k c d) refl
+    rw (
+      append_assoc,
+      value_read xs (token.Sign sign.Dots ∷ ((ys ++ token.Sign sign.CloseSquare ∷ []) ++ rest)) k i refl,
+      append_assoc,
+      value_read ys (token.Sign sign.CloseSquare ∷ rest) (grown k c) j refl,
+      grown_twice k c d,
+    ) refl
 
 pub span_last : {d : ℕ} {s : SpanText} (front : List Token) (k : ℕ) → IsSpan d front s → span_at (front, k) ≡ Ok (s, ([], grown k d))
 span_last front k i = rw (append-nil front) at (span_read front [] k i)
@@ -51,7 +58,8 @@ Gets P (Ok x) = P x
 Gets P (Err kind) = kind ≡ fault.Shape
 
 -- one step, and then the next
-pub then : {A B : Type 0} (P : A → Type 0) (Q : B → Type 0) (r : Result A FaultKind) (f : A → Result B FaultKind) → Gets P r → ((x : A) → P x → Gets Q (f x)) → Gets Q (r >>= f)
+pub then : {A B : Type 0} (P : A → Type 0) (Q : B → Type 0) (r : Result A FaultKind) (f : A → Result B FaultKind) → Gets P r → ((x : A) → P x → Gets Q (f x))
+    → Gets Q (r >>= f)
 then P Q (Ok x) f p k = k x p
 then P Q (Err e) f p k = p
 
@@ -60,7 +68,8 @@ weaker P Q (Ok x) p k = k x p
 weaker P Q (Err e) p k = p
 
 -- a step of two steps
-pub regrouped : {A B C : Type 0} (Q : C → Type 0) (r : Result A FaultKind) (f : A → Result B FaultKind) (g : B → Result C FaultKind) → Gets Q (r >>= λ x. f x >>= g) → Gets Q ((r >>= f) >>= g)
+pub regrouped : {A B C : Type 0} (Q : C → Type 0) (r : Result A FaultKind) (f : A → Result B FaultKind) (g : B → Result C FaultKind)
+    → Gets Q (r >>= λ x. f x >>= g) → Gets Q ((r >>= f) >>= g)
 regrouped Q (Ok x) f g p = p
 regrouped Q (Err e) f g p = p
 
@@ -77,32 +86,38 @@ pub record Stands (S : ℕ → List Token → Type 0) (x y : Left) : Type 0 wher
   pub spelled : S depth front
   pub deep : y.1 ≡ grown x.1 depth
 
-pub then_name : {B : Type 0} (Q : B → Type 0) (x : Left) (f : List ℕ × Left → Result B FaultKind) → ((y : List ℕ × Left) → Begins (token.Name y.0) x y.1 → Gets Q (f y)) → Gets Q (name_at x >>= f)
+pub then_name : {B : Type 0} (Q : B → Type 0) (x : Left) (f : List ℕ × Left → Result B FaultKind)
+    → ((y : List ℕ × Left) → Begins (token.Name y.0) x y.1 → Gets Q (f y)) → Gets Q (name_at x >>= f)
 unfolding name_at
 then_name Q (token.Name name ∷ ts, k) f next = next (name, (ts, k)) (record { tokens = refl; same = refl })
 then_name Q _ f next = refl
 
-pub then_comma : {B : Type 0} (Q : B → Type 0) (x : Left) (f : Left → Result B FaultKind) → ((y : Left) → Begins (token.Sign sign.Comma) x y → Gets Q (f y)) → Gets Q (comma_at x >>= f)
+pub then_comma : {B : Type 0} (Q : B → Type 0) (x : Left) (f : Left → Result B FaultKind) → ((y : Left) → Begins (token.Sign sign.Comma) x y → Gets Q (f y))
+    → Gets Q (comma_at x >>= f)
 unfolding comma_at
 then_comma Q (token.Sign sign.Comma ∷ ts, k) f next = next (ts, k) (record { tokens = refl; same = refl })
 then_comma Q _ f next = refl
 
-pub then_dots : {B : Type 0} (Q : B → Type 0) (x : Left) (f : Left → Result B FaultKind) → ((y : Left) → Begins (token.Sign sign.Dots) x y → Gets Q (f y)) → Gets Q (dots_at x >>= f)
+pub then_dots : {B : Type 0} (Q : B → Type 0) (x : Left) (f : Left → Result B FaultKind) → ((y : Left) → Begins (token.Sign sign.Dots) x y → Gets Q (f y))
+    → Gets Q (dots_at x >>= f)
 unfolding dots_at
 then_dots Q (token.Sign sign.Dots ∷ ts, k) f next = next (ts, k) (record { tokens = refl; same = refl })
 then_dots Q _ f next = refl
 
-pub then_set : {B : Type 0} (Q : B → Type 0) (x : Left) (f : Left → Result B FaultKind) → ((y : Left) → Begins (token.Sign sign.Set) x y → Gets Q (f y)) → Gets Q (set_at x >>= f)
+pub then_set : {B : Type 0} (Q : B → Type 0) (x : Left) (f : Left → Result B FaultKind) → ((y : Left) → Begins (token.Sign sign.Set) x y → Gets Q (f y))
+    → Gets Q (set_at x >>= f)
 unfolding set_at
 then_set Q (token.Sign sign.Set ∷ ts, k) f next = next (ts, k) (record { tokens = refl; same = refl })
 then_set Q _ f next = refl
 
-then_open : {B : Type 0} (Q : B → Type 0) (x : Left) (f : Left → Result B FaultKind) → ((y : Left) → Begins (token.Sign sign.OpenSquare) x y → Gets Q (f y)) → Gets Q (open_at x >>= f)
+then_open : {B : Type 0} (Q : B → Type 0) (x : Left) (f : Left → Result B FaultKind) → ((y : Left) → Begins (token.Sign sign.OpenSquare) x y → Gets Q (f y))
+    → Gets Q (open_at x >>= f)
 unfolding open_at
 then_open Q (token.Sign sign.OpenSquare ∷ ts, k) f next = next (ts, k) (record { tokens = refl; same = refl })
 then_open Q _ f next = refl
 
-then_close : {B : Type 0} (Q : B → Type 0) (x : Left) (f : Left → Result B FaultKind) → ((y : Left) → Begins (token.Sign sign.CloseSquare) x y → Gets Q (f y)) → Gets Q (close_at x >>= f)
+then_close : {B : Type 0} (Q : B → Type 0) (x : Left) (f : Left → Result B FaultKind) → ((y : Left) → Begins (token.Sign sign.CloseSquare) x y → Gets Q (f y))
+    → Gets Q (close_at x >>= f)
 unfolding close_at
 then_close Q (token.Sign sign.CloseSquare ∷ ts, k) f next = next (ts, k) (record { tokens = refl; same = refl })
 then_close Q _ f next = refl

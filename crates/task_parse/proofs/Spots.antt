@@ -56,7 +56,8 @@ pub any_reversed : (p : OpenBlock → Bool) (blocks : List OpenBlock) → list_a
 any_reversed p [] = refl
 any_reversed p (b ∷ blocks) =
     let e : reverse (b ∷ blocks) ≡ reverse blocks ++ b ∷ [] = reverse-append (b ∷ []) blocks in
-    ap (list_any p) e ∙ list_any-append p (reverse blocks) (b ∷ []) ∙ rw (any_reversed p blocks) (or_swap (list_any p blocks) (p b || false) ∙ rest (p b) (list_any p blocks))
+    ap (list_any p) e ∙ list_any-append p (reverse blocks) (b ∷ [])
+    ∙ rw (any_reversed p blocks) (or_swap (list_any p blocks) (p b || false) ∙ rest (p b) (list_any p blocks))
   where
     rest : (a b : Bool) → ((a || false) || b) ≡ (a || b)
     rest true b = refl

@@ -1,14 +1,15 @@
 -- Reading each form of statement, behind its word.
-use Rattle.std.specs.Prelude.{ℕ, ◌-◌, Bool, [], ◌∷◌, length, Result, Ok, Err, nat_lt, if◌then◌else◌}
+use Rattle.std.specs.Prelude.{ℕ, Bool, [], ◌∷◌, length, Result, Ok, Err, nat_lt, if◌then◌else◌}
 use Rattle.rt_base.specs.declared.data.FaultKind.{FaultKind}
 use Rattle.rt_base.specs.declared.data.FaultKind.TheVariants as fault
 use Rattle.rt_base.specs.declared.data.Mode.{Mode}
 use Rattle.rt_base.specs.declared.data.How.{How}
 use Rattle.rt_base.specs.declared.data.Kernel.{Kernel}
+use Rattle.rt_base.specs.KernelForms.{source_count, number_count}
 use Rattle.task_tree.specs.declared.tree.What.{What}
 use Rattle.task_tree.specs.declared.tree.What.TheVariants as what
 use Rattle.task_tree.specs.Reading.{◌>>=◌}
-use Rattle.task_parse.specs.Statements.{span_count, value_count, listed}
+use Rattle.task_parse.specs.Statements.{listed}
 use Rattle.task_parse.specs.ReadingsOfParts.{Left, name_at, comma_at, dots_at, set_at, value_at, span_at}
 use Rattle.task_parse.specs.ReadingsOfOperands.{handle_at, peer_at, tag_at, on_at, status_at, own_status_at, names_at, next_span, next_value, more_of}
 
@@ -63,8 +64,8 @@ touch_line mode x = do
 unfoldable pub kernel_line : Kernel → Left → Result (What × ℕ) FaultKind
 kernel_line kernel x = do
   first ← span_at x
-  spans ← more_of next_span (first.0 ∷ []) (span_count kernel - 1) first.1
-  values ← more_of next_value [] (value_count kernel) spans.1
+  spans ← more_of next_span (first.0 ∷ []) (source_count kernel) first.1
+  values ← more_of next_value [] (number_count kernel) spans.1
   whole (what.Kern kernel (listed spans.0) (listed values.0)) values.1
 
 unfoldable pub posting_line : How → Left → Result (What × ℕ) FaultKind

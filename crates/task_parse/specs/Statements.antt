@@ -1,8 +1,9 @@
 -- What the tokens of a line say, each form of statement by itself (this project's).
 -- The first number is that of the brackets and unary minus signs that are open at the deepest place of the line.
-use Rattle.std.specs.Prelude.{◌≡◌, ℕ, ◌≤◌, max, Bool, true, false, List, [], ◌∷◌, ◌++◌, length, Option, Some, None}
+use Rattle.std.specs.Prelude.{◌≡◌, ℕ, ◌+◌, ◌≤◌, max, Bool, true, false, List, [], ◌∷◌, ◌++◌, length, Option, Some, None}
 use Rattle.rt_base.specs.Listing.{Listing}
 use Rattle.rt_base.specs.Operations.{blocks, is_receive}
+use Rattle.rt_base.specs.KernelForms.{source_count, number_count}
 use Rattle.rt_base.specs.declared.data.Mode.{Mode}
 use Rattle.rt_base.specs.declared.data.Mode.TheVariants as mode
 use Rattle.rt_base.specs.declared.data.How.{How}
@@ -91,7 +92,7 @@ abbrev pub waitall_key : Bool → Key
 waitall_key false = key.Waitall
 waitall_key true = key.Iwaitall
 
--- the word of a kernel, and how many spans and numbers stand behind it
+-- the word of a kernel
 abbrev pub kernel_key : Kernel → Key
 kernel_key kernel.Fill = key.Fill
 kernel_key kernel.Ramp = key.Ramp
@@ -104,32 +105,6 @@ kernel_key kernel.Jacobi2 = key.Jacobi2
 kernel_key kernel.Sum = key.Sum
 kernel_key kernel.Least = key.Least
 kernel_key kernel.Greatest = key.Greatest
-
-abbrev pub span_count : Kernel → ℕ
-span_count kernel.Fill = 1
-span_count kernel.Ramp = 1
-span_count kernel.Copy = 2
-span_count kernel.Add = 3
-span_count kernel.Sub = 3
-span_count kernel.Scale = 2
-span_count kernel.Shift = 2
-span_count kernel.Jacobi2 = 2
-span_count kernel.Sum = 2
-span_count kernel.Least = 2
-span_count kernel.Greatest = 2
-
-abbrev pub value_count : Kernel → ℕ
-value_count kernel.Fill = 1
-value_count kernel.Ramp = 2
-value_count kernel.Copy = 0
-value_count kernel.Add = 0
-value_count kernel.Sub = 0
-value_count kernel.Scale = 1
-value_count kernel.Shift = 1
-value_count kernel.Jacobi2 = 0
-value_count kernel.Sum = 0
-value_count kernel.Least = 0
-value_count kernel.Greatest = 0
 
 -- whether the call has a status of its own
 abbrev pub has_status : How → Bool
@@ -174,9 +149,10 @@ pub data IsStatement : ℕ → List Token → What → Type 0 where
       → IsStatement d (token.Key (access_key kind) ∷ ts) (what.Touch kind span)
   body : IsStatement 0 (token.Key key.Do ∷ []) what.Do
   computing : {c d : ℕ} {xs ys : List Token} {spans : List SpanText} {values : List Term} (name : Kernel)
-      → AreSpans c xs spans → length spans ≡ span_count name → AreValues d ys values → length values ≡ value_count name
+      → AreSpans c xs spans → length spans ≡ 1 + source_count name → AreValues d ys values → length values ≡ number_count name
       → IsStatement (max c d) (token.Key (kernel_key name) ∷ (xs ++ ys)) (what.Kern name (listed spans) (listed values))
-  posting : {a b c d : ℕ} {hs xs ys zs os ss : List Token} {handle comm : Option (List ℕ)} {span : SpanText} {whom : PeerText} {number : TagText} {status : Option SpanText} (call : How)
+  posting : {a b c d : ℕ} {hs xs ys zs os ss : List Token} {handle comm : Option (List ℕ)} {span : SpanText} {whom : PeerText} {number : TagText}
+      {status : Option SpanText} (call : How)
       → IsHandle call hs handle → IsSpan a xs span → IsPeer call b ys whom → IsTag call c zs number → IsOn os comm → HasStatus call d ss status
       → IsStatement (max a (max b (max c d)))
       (token.Key (call_key call) ∷ (hs ++ (xs ++ token.Sign sign.Comma ∷ (ys ++ token.Sign sign.Comma ∷ (zs ++ (os ++ ss))))))

@@ -2,7 +2,6 @@
 
 ghost use Rattle.std.specs.Prelude.{◌≡◌};
 ghost use Rattle.task_tree.specs.Reading.{Gives};
-ghost use Rattle.task_parse.specs.Statements.{span_count, value_count};
 ghost use Rattle.task_parse.specs.ReadingsOfParts.{left};
 ghost use Rattle.task_parse.specs.ReadingsOfLines.{whole, array_line, show_line, comm_line, let_line, for_line, if_line, touch_line, kernel_line, posting_line, wait_line, waitall_line};
 
@@ -99,31 +98,7 @@ pub fn touch_line(alloc: Global, mode: Mode, rest: Rest) -> Result<(What, u32), 
     whole(What::Touch { mode, span }, rest)
 }
 
-// How many spans stand behind the word of a kernel.
-fn span_count(kernel: Kernel) -> usize
-    ensures { result ≡ span_count kernel }
-{
-    match kernel {
-        Kernel::Fill | Kernel::Ramp => 1,
-        Kernel::Add | Kernel::Sub => 3,
-        Kernel::Copy | Kernel::Scale | Kernel::Shift | Kernel::Jacobi2 => 2,
-        Kernel::Sum | Kernel::Least | Kernel::Greatest => 2,
-    }
-}
-
-// How many numbers stand behind the spans of a kernel.
-fn value_count(kernel: Kernel) -> usize
-    ensures { result ≡ value_count kernel }
-{
-    match kernel {
-        Kernel::Ramp => 2,
-        Kernel::Fill | Kernel::Scale | Kernel::Shift => 1,
-        Kernel::Copy | Kernel::Add | Kernel::Sub | Kernel::Jacobi2 => 0,
-        Kernel::Sum | Kernel::Least | Kernel::Greatest => 0,
-    }
-}
-
-/// As many spans as the kernel has, and as many expressions behind them, with commas between.
+/// The destination, as many sources as the kernel takes, and as many numbers, with commas between.
 #[tactic(auto, unfolding(crate::specs::ReadingsOfLines::kernel_line))]
 pub fn kernel_line(alloc: Global, kernel: Kernel, rest: Rest) -> Result<(What, u32), LineRefusal>
     ensures { Gives (λ x. x) result (kernel_line kernel (left rest.entry)) }
@@ -131,8 +106,8 @@ pub fn kernel_line(alloc: Global, kernel: Kernel, rest: Rest) -> Result<(What, u
     let (first, rest) = span_at(alloc, rest)?;
     let mut spans = Vec::new(alloc);
     spans.push(first)?;
-    let (spans, rest) = spans_behind(alloc, spans, span_count(kernel).saturating_sub(1), rest)?;
-    let (values, rest) = values_behind(alloc, Vec::new(alloc), value_count(kernel), rest)?;
+    let (spans, rest) = spans_behind(alloc, spans, kernel.sources(), rest)?;
+    let (values, rest) = values_behind(alloc, Vec::new(alloc), kernel.numbers(), rest)?;
     let spans = SpanTexts::from_vec(spans);
     let values = Exprs::from_vec(values);
     whole(

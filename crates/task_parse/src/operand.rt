@@ -1,7 +1,6 @@
 //! The operands of calls, waits and kernels, each from the front of the tokens.
 
 ghost use Rattle.std.specs.Prelude.{◌≡◌, ◌∷◌, [], ◌<◌, length, Ok, IfSome, option_map};
-ghost use Rattle.rt_base.specs.Operations.{blocks, is_receive};
 ghost use Rattle.task_tree.specs.Reading.{Gives};
 ghost use Rattle.task_parse.specs.Statements.{has_status};
 ghost use Rattle.task_parse.specs.ReadingsOfParts.{left};
@@ -11,25 +10,6 @@ use crate::part::{Rest, comma_at, name_at, span_at, value_at};
 use rt_base::{FaultKind, How, Name};
 use std::alloc::Global;
 use task_tree::{Expr, Key, LineRefusal, PeerText, Sign, SpanText, TagText, Token};
-
-// Whether the call returns only when its request is complete.
-fn blocks(how: How) -> bool
-    ensures { result ≡ blocks how }
-{
-    match how {
-        How::Send | How::Ssend | How::Recv => true,
-        How::Isend | How::Issend | How::Irecv => false,
-    }
-}
-
-fn is_receive(how: How) -> bool
-    ensures { result ≡ is_receive how }
-{
-    match how {
-        How::Recv | How::Irecv => true,
-        How::Send | How::Ssend | How::Isend | How::Issend => false,
-    }
-}
 
 // Whether the call may have a status of its own.
 fn has_status(how: How) -> bool
@@ -55,7 +35,7 @@ fn named_handle(alloc: Global, rest: Rest) -> Result<(Option<Name>, Rest), LineR
 pub fn handle_at(alloc: Global, how: How, rest: Rest) -> Result<(Option<Name>, Rest), LineRefusal>
     ensures { Gives (λ x. (x.0, left x.1)) result (handle_at how (left rest.entry)) }
 {
-    if blocks(how) {
+    if how.blocks() {
         return Ok((None, rest));
     }
     named_handle(alloc, rest)
@@ -69,7 +49,7 @@ pub fn peer_at(alloc: Global, how: How, rest: Rest) -> Result<(PeerText, Rest), 
     match rest.tokens {
         [Token::Key(Key::Null), tokens @ ..] => Ok((PeerText::Null, Rest { tokens, ..rest })),
         [Token::Key(Key::Any), tokens @ ..] => {
-            if is_receive(how) {
+            if how.is_receive() {
                 Ok((PeerText::Any, Rest { tokens, ..rest }))
             } else {
                 Err(LineRefusal::Fault(FaultKind::Shape))
@@ -89,7 +69,7 @@ pub fn tag_at(alloc: Global, how: How, rest: Rest) -> Result<(TagText, Rest), Li
 {
     match rest.tokens {
         [Token::Key(Key::Any), tokens @ ..] => {
-            if is_receive(how) {
+            if how.is_receive() {
                 Ok((TagText::Any, Rest { tokens, ..rest }))
             } else {
                 Err(LineRefusal::Fault(FaultKind::Shape))

@@ -29,7 +29,8 @@ passed s rest is.rank h = record { operand = _; frames = s; passes = refl; comes
 passed s rest is.size h = record { operand = _; frames = s; passes = refl; comes = refl }
 passed s rest (is.brackets {d} {ts} {e} i) h =
     let p = passed (frame.Open ∷ s) (token.Sign sign.CloseRound ∷ rest) i refl in
-    let f : run None (frame.Open ∷ s) ((ts ++ token.Sign sign.CloseRound ∷ []) ++ rest) ≡ run (Some p.operand) p.frames (token.Sign sign.CloseRound ∷ rest) = rw append_assoc p.passes in
+    let f : run None (frame.Open ∷ s) ((ts ++ token.Sign sign.CloseRound ∷ []) ++ rest) ≡ run (Some p.operand) p.frames (token.Sign sign.CloseRound ∷ rest) =
+    rw append_assoc p.passes in
     record { operand = (e, min (d + 1) 65); frames = s; passes = f ∙ rw (p.comes, deeper_cap d) refl; comes = refl }
 passed s rest (is.minus {d} {ts} {e} i) h =
     let p = passed (frame.Neg ∷ s) rest i refl in
@@ -44,7 +45,8 @@ passed s rest (is.two {c} {d} {xs} {ys} {l} {r} {op} x o i j) h =
       operand = q.operand;
       frames = q.frames;
       passes = rw (append_assoc, p.passes, o, start, holds_nothing (level op) s h) q.passes;
-      comes = lower (level op) (level op + 1) q.operand (r, min d 65) q.frames (frame.Left op l (min c 65) ∷ s) (omega arith) q.comes ∙ rw (at_itself (level op), max_cap c d) refl;
+      comes = lower (level op) (level op + 1) q.operand (r, min d 65) q.frames (frame.Left op l (min c 65) ∷ s) (omega arith) q.comes
+          ∙ rw (at_itself (level op), max_cap c d) refl;
     }
 passed s rest (is.up {k} {d} {ts} {e} i) h =
     let p = passed s rest i (below_more k (k + 1) s (omega arith) h) in

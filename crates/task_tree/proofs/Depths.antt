@@ -43,7 +43,8 @@ passed s m rest is.name h = ap (λ x. deepest false (unit_ends s) (max m x) rest
 passed s m rest is.rank h = ap (λ x. deepest false (unit_ends s) (max m x) rest) (omega arith)
 passed s m rest is.size h = ap (λ x. deepest false (unit_ends s) (max m x) rest) (omega arith)
 passed s m rest (is.brackets {d} {ts} {e} i) h =
-    let f : deepest true (Bracket ∷ s) m ((ts ++ token.Sign sign.CloseRound ∷ []) ++ rest) ≡ deepest true (Bracket ∷ s) m (ts ++ token.Sign sign.CloseRound ∷ rest) = rw append_assoc refl in
+    let f : deepest true (Bracket ∷ s) m ((ts ++ token.Sign sign.CloseRound ∷ []) ++ rest)
+    ≡ deepest true (Bracket ∷ s) m (ts ++ token.Sign sign.CloseRound ∷ rest) = rw append_assoc refl in
     f ∙ passed (Bracket ∷ s) m (token.Sign sign.CloseRound ∷ rest) i (λ _. refl) ∙ ap (λ x. deepest false (unit_ends s) (max m x) rest) (omega arith)
 passed s m rest (is.minus {d} {ts} {e} i) h =
     passed (Minus ∷ s) m rest i (λ b. absurd (omega arith)) ∙ ap (λ x. deepest false (unit_ends s) (max m x) rest) (omega arith)

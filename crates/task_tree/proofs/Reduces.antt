@@ -69,7 +69,11 @@ again k j v [] h = refl
 again k j v (frame.Open ∷ s) h = refl
 again k j v (frame.Neg ∷ s) h = again k j (negated v) s h
 again k j v (frame.Left op left depth ∷ s) h =
-    elim (nat_le j (level op)) as (λ b. nat_le j (level op) ≡ b → reduce k v (frame.Left op left depth ∷ s) ≡ reduce k (cond b (reduce j (joined op left depth v) s) (v, frame.Left op left depth ∷ s)).0 (cond b (reduce j (joined op left depth v) s) (v, frame.Left op left depth ∷ s)).1)
+    elim (nat_le j (level op)) as (λ b. nat_le j (level op) ≡ b
+    → reduce k v (frame.Left op left depth ∷ s) ≡ reduce k (cond b (reduce j (joined op left depth v) s) (
+      v,
+      frame.Left op left depth ∷ s,
+    )).0 (cond b (reduce j (joined op left depth v) s) (v, frame.Left op left depth ∷ s)).1)
     [ true ↦ (λ e. let f : nat_le k (level op) ≡ true = grind (arith, nat_tests) in rw f (again k j (joined op left depth v) s h)) | false ↦ (λ e. refl) ] refl
 
 -- one more of a capped depth

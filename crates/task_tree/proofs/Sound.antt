@@ -58,7 +58,17 @@ down : (k j : ℕ) {d : ℕ} {ts : List Token} {e : Term} → k ≤ j → Is j d
 down k j h i = up_by (j - k) k j (omega (arith, h)) i
 
 lower : (k j : ℕ) (v : Term × ℕ) (s : List Frame) (done : List Token) → k ≤ j → below k s ≡ true → Stands j v s done → Stands k v s done
-lower k j v s done h b h' = record { front = h'.front; own = h'.own; depth = h'.depth; whole = h'.whole; spelled = down k j h h'.spelled; cap = h'.cap; before = h'.before; above = b }
+lower k j v s done h b h' = record {
+  front = h'.front;
+  own = h'.own;
+  depth = h'.depth;
+  whole = h'.whole;
+  spelled = down k j h h'.spelled;
+  cap =
+      h'.cap;
+  before = h'.before;
+  above = b;
+}
 
 -- an operand behind a minus sign
 under_minus : (j : ℕ) (v : Term × ℕ) (s : List Frame) (done : List Token) → Stands j v (frame.Neg ∷ s) done → Stands 3 (negated v) s done
@@ -76,7 +86,8 @@ under_minus j v s done i =
     }
 
 -- an operand to the right of an operator
-to_the_right : (j : ℕ) (v : Term × ℕ) (op : BinOp) (left : Term) (depth : ℕ) (s : List Frame) (done : List Token) → Stands j v (frame.Left op left depth ∷ s) done → Stands (level op) (joined op left depth v) s done
+to_the_right : (j : ℕ) (v : Term × ℕ) (op : BinOp) (left : Term) (depth : ℕ) (s : List Frame) (done : List Token)
+    → Stands j v (frame.Left op left depth ∷ s) done → Stands (level op) (joined op left depth v) s done
 to_the_right j v op left depth s done i =
     let side = i.before.1 in
     let above : level op + 1 ≤ j = grind (arith, nat_tests, i.above) in
@@ -97,7 +108,11 @@ takes k j v [] done h b i = lower k j v [] done h refl i
 takes k j v (frame.Open ∷ s) done h b i = lower k j v (frame.Open ∷ s) done h refl i
 takes k j v (frame.Neg ∷ s) done h b i = takes k 3 (negated v) s done b b (under_minus j v s done i)
 takes k j v (frame.Left op left depth ∷ s) done h b i =
-    elim (nat_le k (level op)) as (λ c. nat_le k (level op) ≡ c → Stands k (cond c (reduce k (joined op left depth v) s) (v, frame.Left op left depth ∷ s)).0 (cond c (reduce k (joined op left depth v) s) (v, frame.Left op left depth ∷ s)).1 done) [
+    elim (nat_le k (level op)) as (λ c. nat_le k (level op) ≡ c
+    → Stands k (cond c (reduce k (joined op left depth v) s) (v, frame.Left op left depth ∷ s)).0 (cond c (reduce k (joined op left depth v) s) (
+      v,
+      frame.Left op left depth ∷ s,
+    )).1 done) [
       | true ↦ (λ e. takes k (level op) (joined op left depth v) s done (grind (arith, nat_tests)) b (to_the_right j v op left depth s done i))
       | false ↦ (λ e. lower k j v (frame.Left op left depth ∷ s) done h (rw e refl) i)
     ] refl
@@ -132,7 +147,8 @@ abbrev pub Kept : Token → List Token → Result (Step × List Frame) FaultKind
 Kept t done (Ok x) = Keeps t done x.0 x.1
 Kept t done (Err kind) = kind ≡ fault.Shape
 
-over_of : (t : Token) (done : List Token) (r : Result (Term × ℕ) FaultKind) → Wholes done r → is_operator t ≡ false → Kept t done (r >>= λ w. Ok (step.Over w, []))
+over_of : (t : Token) (done : List Token) (r : Result (Term × ℕ) FaultKind) → Wholes done r → is_operator t ≡ false
+    → Kept t done (r >>= λ w. Ok (step.Over w, []))
 over_of t done (Ok v) w h = (w, h)
 over_of t done (Err kind) w h = w
 
@@ -163,9 +179,11 @@ none_held op (frame.Open ∷ s) b h = refl
 none_held op (frame.Neg ∷ s) b h = let m = level_bound op in grind (arith, nat_tests)
 none_held op (frame.Left other left depth ∷ s) b h = rw h refl
 
-pushed_kept : (op : BinOp) (v : Term × ℕ) (s : List Frame) (x : Sign) (done : List Token) → operator x ≡ Some op → Stands (left_level op) v s done → Kept (token.Sign x) done (pushed op (v, s))
+pushed_kept : (op : BinOp) (v : Term × ℕ) (s : List Frame) (x : Sign) (done : List Token) → operator x ≡ Some op → Stands (left_level op) v s done
+    → Kept (token.Sign x) done (pushed op (v, s))
 pushed_kept op v s x done same i =
-    elim (is_held (level op) s) as (λ c. is_held (level op) s ≡ c → Kept (token.Sign x) done (cond c (Err fault.Shape) (going None (frame.Left op v.0 v.1 ∷ s)))) [
+    elim (is_held (level op) s) as (λ c. is_held (level op) s ≡ c
+    → Kept (token.Sign x) done (cond c (Err fault.Shape) (going None (frame.Left op v.0 v.1 ∷ s)))) [
       | true ↦ (λ e. refl)
       | false ↦ (λ e. (
         i.front,
@@ -183,7 +201,8 @@ pushed_kept op v s x done same i =
       ))
     ] refl
 
-sign_kept : (v : Term × ℕ) (s : List Frame) (x : Sign) (o : Option BinOp) (done : List Token) → operator x ≡ o → Stands 3 v s done → Kept (token.Sign x) done (at_sign v s x o)
+sign_kept : (v : Term × ℕ) (s : List Frame) (x : Sign) (o : Option BinOp) (done : List Token) → operator x ≡ o → Stands 3 v s done
+    → Kept (token.Sign x) done (at_sign v s x o)
 sign_kept v s x (Some op) done e i =
     let m = level_bound op in
     pushed_kept op _ _ x done e (takes (left_level op) 3 v s done (omega arith) (omega arith) i)
@@ -223,7 +242,15 @@ behind : (t : Token) (ts done : List Token) (r : Result (Step × List Frame) Fau
     → ((m : Option (Term × ℕ)) (s : List Frame) (so_far : List Token) → Holds m s so_far → Finds (run m s ts) (so_far ++ ts))
     → Kept t done r → Finds (r >>= λ x. elim x.0 [ step.GoOn next ↦ run next x.1 ts | step.Over v ↦ Ok (v, t ∷ ts) ]) (done ++ t ∷ ts)
 behind t ts done (Ok (step.GoOn next, s)) further h = rw append_assoc at (further next s (done ++ t ∷ []) h)
-behind t ts done (Ok (step.Over v, s)) further h = record { front = done; depth = h.0.depth; whole = refl; spelled = h.0.spelled; cap = h.0.cap; end = rw h.1 refl }
+behind t ts done (Ok (step.Over v, s)) further h = record {
+  front = done;
+  depth = h.0.depth;
+  whole = refl;
+  spelled = h.0.spelled;
+  cap = h.0.cap;
+  end =
+      rw h.1 refl;
+}
 behind t ts done (Err kind) further h = h
 
 run_finds : (ts : List Token) (m : Option (Term × ℕ)) (s : List Frame) (done : List Token) → Holds m s done → Finds (run m s ts) (done ++ ts)

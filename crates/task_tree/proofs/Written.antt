@@ -169,20 +169,25 @@ same (When l1 t1 b1 e1 r1) (When l2 t2 b2 e2 r2) x y sx sy h =
     let lasts = line_is e1 e2 what.End what.End last in
     (same_when l1 l2 t1 t2 b1 b2 e1 e2 r1 r2 lines saids inside.0 lasts more.0, more.1)
 same (When l1 t1 b1 e1 r1) (Choice l2 t2 b2 m2 o2 e2 r2) x y sx sy h =
-    let inside = same b1 b2 (stmt e1 what.End ∷ (written r1 ++ x)) (stmt m2 what.Else ∷ ((written o2 ++ (stmt e2 what.End ∷ written r2)) ++ y)) (omega arith) (omega arith)
-    (sym (behind (written b1) (written r1) (stmt e1 what.End) x) ∙ tails _ _ _ _ h ∙ behind (written b2) (written o2 ++ (stmt e2 what.End ∷ written r2)) (stmt m2 what.Else) y) in
+    let inside = same b1 b2 (stmt e1 what.End ∷ (written r1 ++ x)) (stmt m2 what.Else ∷ ((written o2 ++ (stmt e2 what.End ∷ written r2)) ++ y)) (omega arith)
+    (omega arith)
+    (sym (behind (written b1) (written r1) (stmt e1 what.End) x) ∙ tails _ _ _ _ h
+    ∙ behind (written b2) (written o2 ++ (stmt e2 what.End ∷ written r2)) (stmt m2 what.Else) y) in
     absurd (let e = ap first_sort inside.1 in omega (arith, e))
 same (When l1 t1 b1 e1 r1) (Work l2 a2 m2 b2 e2 r2) x y sx sy h = absurd (let e = ap first_sort h in omega (arith, e))
 same (Choice l1 t1 b1 m1 o1 e1 r1) Done x y sx sy h = absurd (let e = ap first_sort h in omega (arith, sy, e))
 same (Choice l1 t1 b1 m1 o1 e1 r1) (Plain l2 s2 p2 r2) x y sx sy h = absurd (let e = ap first_sort h in omega (arith, e, plain_sort s2 p2))
 same (Choice l1 t1 b1 m1 o1 e1 r1) (Loop l2 n2 f2 t2 b2 e2 r2) x y sx sy h = absurd (let e = ap first_sort h in omega (arith, e))
 same (Choice l1 t1 b1 m1 o1 e1 r1) (When l2 t2 b2 e2 r2) x y sx sy h =
-    let inside = same b1 b2 (stmt m1 what.Else ∷ ((written o1 ++ (stmt e1 what.End ∷ written r1)) ++ x)) (stmt e2 what.End ∷ (written r2 ++ y)) (omega arith) (omega arith)
-    (sym (behind (written b1) (written o1 ++ (stmt e1 what.End ∷ written r1)) (stmt m1 what.Else) x) ∙ tails _ _ _ _ h ∙ behind (written b2) (written r2) (stmt e2 what.End) y) in
+    let inside = same b1 b2 (stmt m1 what.Else ∷ ((written o1 ++ (stmt e1 what.End ∷ written r1)) ++ x)) (stmt e2 what.End ∷ (written r2 ++ y)) (omega arith)
+    (omega arith)
+    (sym (behind (written b1) (written o1 ++ (stmt e1 what.End ∷ written r1)) (stmt m1 what.Else) x) ∙ tails _ _ _ _ h
+    ∙ behind (written b2) (written r2) (stmt e2 what.End) y) in
     absurd (let e = ap first_sort inside.1 in omega (arith, e))
 same (Choice l1 t1 b1 m1 o1 e1 r1) (Choice l2 t2 b2 m2 o2 e2 r2) x y sx sy h =
     let first = heads _ _ _ _ h in
-    let inside = same b1 b2 (stmt m1 what.Else ∷ ((written o1 ++ (stmt e1 what.End ∷ written r1)) ++ x)) (stmt m2 what.Else ∷ ((written o2 ++ (stmt e2 what.End ∷ written r2)) ++ y))
+    let inside = same b1 b2 (stmt m1 what.Else ∷ ((written o1 ++ (stmt e1 what.End ∷ written r1)) ++ x))
+    (stmt m2 what.Else ∷ ((written o2 ++ (stmt e2 what.End ∷ written r2)) ++ y))
     (omega arith) (omega arith)
     (sym (behind (written b1) (written o1 ++ (stmt e1 what.End ∷ written r1)) (stmt m1 what.Else) x) ∙ tails _ _ _ _ h
     ∙ behind (written b2) (written o2 ++ (stmt e2 what.End ∷ written r2)) (stmt m2 what.Else) y) in
@@ -204,7 +209,8 @@ same (Work l1 a1 m1 b1 e1 r1) (When l2 t2 b2 e2 r2) x y sx sy h = absurd (let e 
 same (Work l1 a1 m1 b1 e1 r1) (Choice l2 t2 b2 m2 o2 e2 r2) x y sx sy h = absurd (let e = ap first_sort h in omega (arith, e))
 same (Work l1 a1 m1 b1 e1 r1) (Work l2 a2 m2 b2 e2 r2) x y sx sy h =
     let first = heads _ _ _ _ h in
-    let accesses = same_accesses a1 a2 (stmt m1 what.Do ∷ ((written b1 ++ (stmt e1 what.End ∷ written r1)) ++ x)) (stmt m2 what.Do ∷ ((written b2 ++ (stmt e2 what.End ∷ written r2)) ++ y))
+    let accesses = same_accesses a1 a2 (stmt m1 what.Do ∷ ((written b1 ++ (stmt e1 what.End ∷ written r1)) ++ x))
+    (stmt m2 what.Do ∷ ((written b2 ++ (stmt e2 what.End ∷ written r2)) ++ y))
     refl refl
     (sym (behind (map access_stmt a1) (written b1 ++ (stmt e1 what.End ∷ written r1)) (stmt m1 what.Do) x) ∙ tails _ _ _ _ h
     ∙ behind (map access_stmt a2) (written b2 ++ (stmt e2 what.End ∷ written r2)) (stmt m2 what.Do) y) in

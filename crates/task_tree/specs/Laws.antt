@@ -10,7 +10,8 @@ use Rattle.task_tree.specs.Blocks.{Block, written}
 
 -- an expression as it is spelled, before tokens that do not go on with it, is read whole
 abbrev pub SpelledIsRead : Type 0
-SpelledIsRead = (depth : ℕ) (front rest : List Token) (e : Term) → Is 0 depth front e → ends rest ≡ true → expr_at (front ++ rest) ≡ Ok ((e, min depth 65), rest)
+SpelledIsRead = (depth : ℕ) (front rest : List Token) (e : Term) → Is 0 depth front e → ends rest ≡ true
+    → expr_at (front ++ rest) ≡ Ok ((e, min depth 65), rest)
 
 -- what was read of all the tokens stands at their front as the grammar spells it, and what is left does not go on with it
 pub record IsSpelled (e : Term) (capped : ℕ) (rest all : List Token) : Type 0 where

@@ -52,7 +52,7 @@ pub enum What {
     Show {
         name: Name,
     },
-    /// `comm NAME`: a communicator (MPI 4.0, 6.2).
+    /// `comm NAME`: a communicator (MPI 4.0, 7.2).
     Comm {
         name: Name,
     },

@@ -94,7 +94,8 @@ holds_at : {X : Type 0} (Fact : X → Type 0) (c : Result X FaultKind) (x : X) �
 holds_at Fact c x holds is = subst (Holds Fact) is holds
 
 -- whom a send addresses
-pub address_of : (s : State) (to : PeerText) (number : TagText) (w : PeerValue) (c : TagValue) (p : Peer) (t : TagSel) → is_any_peer to || is_any_tag number ≡ false
+pub address_of : (s : State) (to : PeerText) (number : TagText) (w : PeerValue) (c : TagValue) (p : Peer) (t : TagSel)
+    → is_any_peer to || is_any_tag number ≡ false
     → peer_value s to ≡ Ok w → tag_value s number ≡ Ok c → peer_of s.size w ≡ Ok p → tag_of c ≡ Ok t → IsAddress p t
 address_of s to number w c p t none w_is c_is p_is t_is =
     let both = both_false (is_any_peer to) (is_any_tag number) none in

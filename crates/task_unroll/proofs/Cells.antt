@@ -32,7 +32,8 @@ all_append test (x ∷ xs) ys h =
     (ap (λ (b : Bool). b && list_all test xs) first.0 ∙ rest.0, rest.1)
 
 -- a test that each number passes
-each_number : (test : ℕ → Bool) (first count cell : ℕ) → list_all test (numbers_from first count) ≡ true → first ≤ cell → cell < first + count → test cell ≡ true
+each_number : (test : ℕ → Bool) (first count cell : ℕ) → list_all test (numbers_from first count) ≡ true → first ≤ cell → cell < first + count
+    → test cell ≡ true
 each_number test first zero cell all low high = absurd (omega arith)
 each_number test first (suc count) cell all low high =
     let both = both_true (test first) (list_all test (numbers_from (suc first) count)) all in
@@ -63,8 +64,10 @@ has array cell access h =
 pub declared : (accesses : List Access) (span : Span) → is_declared accesses span ≡ true → IsDeclared accesses span
 unfolding is_declared
 declared accesses span all cell covers =
-    let found = each_number (λ (n : ℕ). list_any (λ (access : Access). has_cell span.array n access.span) accesses) span.from (span.to - span.from) cell all covers.0 (cell_below span cell covers) in
-    any_weaker _ (Declares span.array cell) accesses (has span.array cell) (Any-from_list_any (λ (access : Access). has_cell span.array cell access.span) accesses found)
+    let found = each_number (λ (n : ℕ). list_any (λ (access : Access). has_cell span.array n access.span) accesses) span.from (span.to - span.from) cell all
+    covers.0 (cell_below span cell covers) in
+    any_weaker _ (Declares span.array cell) accesses (has span.array cell)
+    (Any-from_list_any (λ (access : Access). has_cell span.array cell access.span) accesses found)
   where
     cell_below : (s : Span) (n : ℕ) → Covers s n → n < s.from + (s.to - s.from)
     cell_below s n c = let low = c.0 in let high = c.1 in omega (arith, low, high)
@@ -74,7 +77,8 @@ pub writable : (accesses : List Access) (span : Span) → is_writable accesses s
 unfolding is_writable
 writable accesses span all cell covers =
     let test : Access → Bool = λ access. has_cell span.array cell access.span && is_written access.mode in
-    let found = each_number (λ (n : ℕ). list_any (λ (access : Access). has_cell span.array n access.span && is_written access.mode) accesses) span.from (span.to - span.from) cell all covers.0 (cell_below span cell covers) in
+    let found = each_number (λ (n : ℕ). list_any (λ (access : Access). has_cell span.array n access.span && is_written access.mode) accesses) span.from
+    (span.to - span.from) cell all covers.0 (cell_below span cell covers) in
     any_weaker _ (λ access. Declares span.array cell access × (is_written access.mode ≡ true)) accesses
     (λ access h. let both = both_true (has_cell span.array cell access.span) (is_written access.mode) h in (has span.array cell access both.0, both.1))
     (Any-from_list_any (λ (access : Access). has_cell span.array cell access.span && is_written access.mode) accesses found)

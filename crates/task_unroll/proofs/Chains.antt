@@ -9,7 +9,8 @@ use Rattle.rt_base.specs.WellFormed.{cells_sent}
 use Rattle.task_unroll.specs.declared.refusal.ExpandRefusal.{ExpandRefusal}
 use Rattle.task_unroll.specs.Unrolling.{◌>>=◌, at}
 use Rattle.task_unroll.specs.States.{Counts, State}
-use Rattle.task_unroll.specs.Counting.{most, kept, stepped, operated}
+use Rattle.rt_base.specs.Limits.{most}
+use Rattle.task_unroll.specs.Counting.{kept, stepped, operated}
 use Rattle.task_unroll.specs.Checks.{Check, passed, op_checks}
 use Rattle.task_unroll.specs.Acts.{op_done}
 use Rattle.task_unroll.proofs.Results.{Holds, bind, bind_by, at_ok, kept_ok}
@@ -35,13 +36,23 @@ pub stepped_leaves : (s : State) → Holds (λ (t : State). (n : ℕ) × (t ≡ 
 unfolding stepped
 stepped_leaves s = bind_kept _ limit.Steps (s.counts.steps + 1) _ (λ below. (s.counts.steps + 1, refl))
 
-pub bind_stepped : {Y : Type 0} (Fact : Y → Type 0) (s : State) (f : State → Result Y ExpandRefusal) → ((n : ℕ) → Holds Fact (f (at_step n s))) → Holds Fact (stepped s >>= f)
+pub bind_stepped : {Y : Type 0} (Fact : Y → Type 0) (s : State) (f : State → Result Y ExpandRefusal) → ((n : ℕ) → Holds Fact (f (at_step n s)))
+    → Holds Fact (stepped s >>= f)
 bind_stepped Fact s f each = bind_by (λ (t : State). (n : ℕ) × (t ≡ at_step n s)) Fact (stepped s) f (stepped_leaves s)
     (λ t is. subst (λ (u : State). Holds Fact (f u)) (sym is.1) (each is.0))
 
 -- one more operation was counted, with its requests and handles
 abbrev pub at_operation : ℕ → ℕ → ℕ → State → State
-at_operation n requests handles s = record s { counts = record s.counts { steps = n; operations = s.counts.operations + 1; requests = s.counts.requests + requests; handles = s.counts.handles + handles } }
+at_operation n requests handles s =
+    record s {
+      counts = record s.counts {
+        steps = n;
+        operations = s.counts.operations + 1;
+        requests = s.counts.requests + requests;
+        handles =
+            s.counts.handles + handles;
+      };
+    }
 
 pub record Operated (requests handles : ℕ) (s t : State) : Type 0 where
   pub steps : ℕ
@@ -59,7 +70,8 @@ operated_leaves requests handles s = bind_stepped (Operated requests handles s) 
     record { steps = n; same = refl; operations = operations; posted = posted; named = named }))))
 
 pub bind_operated : {Y : Type 0} (Fact : Y → Type 0) (requests handles : ℕ) (s : State) (f : State → Result Y ExpandRefusal)
-    → ((n : ℕ) → Operated requests handles s (at_operation n requests handles s) → Holds Fact (f (at_operation n requests handles s))) → Holds Fact (operated requests handles s >>= f)
+    → ((n : ℕ) → Operated requests handles s (at_operation n requests handles s) → Holds Fact (f (at_operation n requests handles s)))
+    → Holds Fact (operated requests handles s >>= f)
 bind_operated Fact requests handles s f each = bind_by (Operated requests handles s) Fact (operated requests handles s) f (operated_leaves requests handles s)
     (λ t is. subst (λ (u : State). Holds Fact (f u)) (sym is.same)
     (each is.steps (subst (Operated requests handles s) is.same is)))
@@ -72,7 +84,8 @@ pub record Tested (handles : Check) (operation : Op) (s : State) : Type 0 where
 abbrev pub at_done : Op → State → State
 at_done operation s = record s { counts = record s.counts { message_cells = s.counts.message_cells + cells_sent operation }; body = s.body ++ operation ∷ [] }
 
-pub op_done_leaves : (line : ℕ) (handles : Check) (operation : Op) (s : State) → Holds (λ (u : State). (u ≡ at_done operation s) × Tested handles operation s) (op_done line handles operation s)
+pub op_done_leaves : (line : ℕ) (handles : Check) (operation : Op) (s : State)
+    → Holds (λ (u : State). (u ≡ at_done operation s) × Tested handles operation s) (op_done line handles operation s)
 unfolding op_done
 op_done_leaves line handles operation s =
     bind_at _ line (passed (op_checks s.accesses s.body handles operation)) _ (λ fine is.

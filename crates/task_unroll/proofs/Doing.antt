@@ -25,7 +25,8 @@ use Rattle.task_unroll.specs.Unrolling.{◌>>=◌}
 use Rattle.task_unroll.specs.States.{State}
 use Rattle.task_unroll.specs.Operands.{span_of, spans_of, values_of, span_or_none, communicator_of, handles_of, peer_value, tag_value, peer_of, tag_of}
 use Rattle.task_unroll.specs.Checks.{Check, check, passed, no_handle, stands_twice}
-use Rattle.task_unroll.specs.Acts.{listed, op_done, source_count, kernel_call, kernel_done, call_checks, is_any_peer, is_any_tag, is_recv, handle_free, handle_check, with_handle, call_done, with_idle, wait_done}
+use Rattle.rt_base.specs.KernelForms.{source_count}
+use Rattle.task_unroll.specs.Acts.{listed, op_done, kernel_call, kernel_done, call_checks, is_any_peer, is_any_tag, is_recv, handle_free, handle_check, with_handle, call_done, with_idle, wait_done}
 use Rattle.task_unroll.proofs.Results.{Holds, bind, bind_by, holds_of}
 use Rattle.task_unroll.proofs.Bodies.{left_stays, left_below, left_new}
 use Rattle.task_unroll.proofs.Meanings.{AllMean, all_mean_with}
@@ -49,7 +50,8 @@ span_in_or_none : (s : State) (status : Option SpanText) → Holds (OfSpan (InLe
 span_in_or_none s None = tt
 span_in_or_none s (Some text) = bind_by (InLens s.lens) (OfSpan (InLens s.lens)) (span_of s text) _ (span_in s text) (λ span span_is. span_is)
 
-kernel_grows : (g : Stage) (n : ℕ) (s : State) (kind : Kernel) (operation : Op) → IsInside g s → Operated 0 0 s (at_operation n 0 0 s) → Tested no_handle operation (at_operation n 0 0 s)
+kernel_grows : (g : Stage) (n : ℕ) (s : State) (kind : Kernel) (operation : Op) → IsInside g s → Operated 0 0 s (at_operation n 0 0 s)
+    → Tested no_handle operation (at_operation n 0 0 s)
     → IsCall (InLens s.lens) kind operation → IsInside g (at_done operation (at_operation n 0 0 s))
 kernel_grows g n s kind (op.Compute of dst left right value step) inside counted tested is =
     grown_sound g n 0 0 s no_handle (op.Compute of dst left right value step) s.names s.lines inside counted tested
@@ -59,15 +61,18 @@ kernel_grows g n s kind (op.Compute of dst left right value step) inside counted
 kernel_grows g n s kind (op.Post how span whom tag comm status) inside counted tested is = absurd is
 kernel_grows g n s kind (op.Await later handles status) inside counted tested is = absurd is
 
-pub kernel_done_sound : (g : Stage) (line : ℕ) (kind : Kernel) (texts : List SpanText) (terms : List Term) (s : State) → IsInside g s → Holds (IsInside g) (kernel_done line kind texts terms s)
+pub kernel_done_sound : (g : Stage) (line : ℕ) (kind : Kernel) (texts : List SpanText) (terms : List Term) (s : State) → IsInside g s
+    → Holds (IsInside g) (kernel_done line kind texts terms s)
 unfolding kernel_done
 kernel_done_sound g line kind texts terms s inside = bind_operated (IsInside g) 0 0 s _ (λ n counted.
     bind_at (IsInside g) line (spans_of (at_operation n 0 0 s) texts) _ (λ spans spans_is.
     bind_at (IsInside g) line (values_of (at_operation n 0 0 s) terms) _ (λ numbers numbers_is.
     bind_at (IsInside g) line (kernel_call kind spans numbers) _ (λ operation operation_is.
     let each = holds_of (Each (InLens s.lens)) (spans_of (at_operation n 0 0 s) texts) spans (spans_in (at_operation n 0 0 s) texts) spans_is in
-    let call = holds_of (IsCall (InLens s.lens) kind) (kernel_call kind spans numbers) operation (kernel_call_is (InLens s.lens) kind spans numbers each) operation_is in
-    holds_weaker (λ (u : State). (u ≡ at_done operation (at_operation n 0 0 s)) × Tested no_handle operation (at_operation n 0 0 s)) (IsInside g) (op_done line no_handle operation (at_operation n 0 0 s))
+    let call = holds_of (IsCall (InLens s.lens) kind) (kernel_call kind spans numbers) operation (kernel_call_is (InLens s.lens) kind spans numbers each)
+    operation_is in
+    holds_weaker (λ (u : State). (u ≡ at_done operation (at_operation n 0 0 s))
+    × Tested no_handle operation (at_operation n 0 0 s)) (IsInside g) (op_done line no_handle operation (at_operation n 0 0 s))
     (λ u both. subst (IsInside g) (sym both.0) (kernel_grows g n s kind operation inside counted both.1 call))
     (op_done_leaves line no_handle operation (at_operation n 0 0 s))))))
 
@@ -80,15 +85,18 @@ open_by_handle : (b : Bool) (name : List ℕ) → (if b then is_some (Some name)
 open_by_handle true name h = absurd (cc)
 open_by_handle false name h = refl
 
-names_call : (arrays comms : ℕ) (names : Names) (body : List Op) (call : How) (handle : Option (List ℕ)) (span : Span) (whom : Peer) (tag : TagSel) (comm : ℕ) (status : Option Span)
+names_call : (arrays comms : ℕ) (names : Names) (body : List Op) (call : How) (handle : Option (List ℕ)) (span : Span) (whom : Peer) (tag : TagSel) (comm : ℕ)
+    (status : Option Span)
     → (if blocks call then is_some handle else is_none handle) ≡ false → HasNames arrays comms names body
     → HasNames arrays comms (with_handle handle (postings body) names) (body ++ op.Post call span whom tag comm status ∷ [])
 names_call arrays comms names body call None span whom tag comm status formed has =
-    names_after arrays comms names body (body ++ op.Post call span whom tag comm status ∷ []) (λ name k posted left. left_stays 0 k body (op.Post call span whom tag comm status) refl left) has
+    names_after arrays comms names body (body ++ op.Post call span whom tag comm status ∷ [])
+    (λ name k posted left. left_stays 0 k body (op.Post call span whom tag comm status) refl left) has
 names_call arrays comms names body call (Some name) span whom tag comm status formed has =
     let after = body ++ op.Post call span whom tag comm status ∷ [] in
     let old = names_after arrays comms names body after (λ other k posted left. left_stays 0 k body (op.Post call span whom tag comm status) refl left) has in
-    let new = subst (λ (m : ℕ). Contains (left_after 0 after) m) (from_zero (postings body)) (left_new 0 body call span whom tag comm status (open_by_handle (blocks call) name formed)) in
+    let new = subst (λ (m : ℕ). Contains (left_after 0 after) m) (from_zero (postings body))
+    (left_new 0 body call span whom tag comm status (open_by_handle (blocks call) name formed)) in
     record {
       fit = all_mean_with (IsFit arrays comms after) names name (meaning.Posted (postings body)) old.fit new;
       once = once_with names name (meaning.Posted (postings body)) has.once (λ n other same posted.
@@ -107,17 +115,21 @@ communicator_below g s (Some name) comm inside is =
     let below : comm < g.comms = inside.sound.names.fit name (meaning.Communicator comm) (communicator_is (meaning_of s.names name) comm is) in
     let same = inside.sound.arrays.comm_count in omega (arith, below, same)
 
-send_address : (s : State) (call : How) (handle : Option (List ℕ)) (to : PeerText) (number : TagText) (status : Option SpanText) (w : _) (c : _) (p : Peer) (t : TagSel) → IsFormed call handle to number status
+send_address : (s : State) (call : How) (handle : Option (List ℕ)) (to : PeerText) (number : TagText) (status : Option SpanText) (w : _) (c : _) (p : Peer)
+    (t : TagSel) → IsFormed call handle to number status
     → peer_value s to ≡ Ok w → tag_value s number ≡ Ok c → peer_of s.size w ≡ Ok p → tag_of c ≡ Ok t → is_receive call ≡ false → IsAddress p t
 send_address s call handle to number status w c p t formed w_is c_is p_is t_is sends =
-    address_of s to number w c p t (sym (ap (λ (b : Bool). if b then false else (is_any_peer to || is_any_tag number)) sends) ∙ formed.wildcards) w_is c_is p_is t_is
+    address_of s to number w c p t (sym (ap (λ (b : Bool). if b then false else (is_any_peer to || is_any_tag number)) sends)
+    ∙ formed.wildcards) w_is c_is p_is t_is
 
-no_status : (s : State) (call : How) (handle : Option (List ℕ)) (to : PeerText) (number : TagText) (status : Option SpanText) (cells : Option Span) → IsFormed call handle to number status
+no_status : (s : State) (call : How) (handle : Option (List ℕ)) (to : PeerText) (number : TagText) (status : Option SpanText) (cells : Option Span)
+    → IsFormed call handle to number status
     → span_or_none s status ≡ Ok cells → is_recv call ≡ false → cells ≡ None
 no_status s call handle to number status cells formed cells_is waits =
     none_given s status cells (sym (ap (λ (b : Bool). if b then false else is_some status) waits) ∙ formed.statuses) cells_is
 
-pub call_done_sound : (g : Stage) (line : ℕ) (call : How) (handle : Option (List ℕ)) (text : SpanText) (to : PeerText) (number : TagText) (on : Option (List ℕ)) (status : Option SpanText) (s : State)
+pub call_done_sound : (g : Stage) (line : ℕ) (call : How) (handle : Option (List ℕ)) (text : SpanText) (to : PeerText) (number : TagText)
+    (on : Option (List ℕ)) (status : Option SpanText) (s : State)
     → IsInside g s → Holds (IsInside g) (call_done line call handle text to number on status s)
 unfolding call_done
 call_done_sound g line call handle text to number on status s inside =
@@ -135,7 +147,8 @@ call_done_sound g line call handle text to number on status s inside =
     let operation = op.Post call span p t comm cells in
     let test = handle_check at handle in
     let formed = formed_is call handle to number status checked checked_is in
-    bind_by (λ (u : State). (u ≡ at_done operation at) × Tested test operation at) (IsInside g) (op_done line test operation at) _ (op_done_leaves line test operation at) (λ u both.
+    bind_by (λ (u : State). (u ≡ at_done operation at)
+    × Tested test operation at) (IsInside g) (op_done line test operation at) _ (op_done_leaves line test operation at) (λ u both.
     subst (λ (v : State). IsInside g (record v { names = with_handle handle (postings s.body) v.names; lines = v.lines ++ line ∷ [] })) (sym both.0)
     (grown_sound g n 1 0 s test operation (with_handle handle (postings s.body) s.names) (s.lines ++ line ∷ []) inside counted both.1 (
       holds_of (InLens s.lens) (span_of at text) span (span_in at text) span_is,
@@ -149,7 +162,8 @@ call_done_sound g line call handle text to number on status s inside =
     tt refl refl
     (names_call g.arrays g.comms s.names s.body call handle span p t comm cells formed.handles inside.sound.names)))))))))))))
 
-pub wait_done_sound : (g : Stage) (line : ℕ) (later : Bool) (handles : List (List ℕ)) (status : Option SpanText) (s : State) → IsInside g s → Holds (IsInside g) (wait_done line later handles status s)
+pub wait_done_sound : (g : Stage) (line : ℕ) (later : Bool) (handles : List (List ℕ)) (status : Option SpanText) (s : State) → IsInside g s
+    → Holds (IsInside g) (wait_done line later handles status s)
 unfolding wait_done
 wait_done_sound g line later handles status s inside = bind_operated (IsInside g) 0 (length handles) s _ (λ n counted.
     bind_at (IsInside g) line (handles_of (at_operation n 0 (length handles) s) handles) _ (λ requests requests_are.
@@ -159,7 +173,8 @@ wait_done_sound g line later handles status s inside = bind_operated (IsInside g
     let test = check fault.RequestTwice (stands_twice handles) in
     let means = holds_of (Mean s.names handles) (handles_of at handles) requests (handles_mean at handles) requests_are in
     let names = inside.sound.names in
-    bind_by (λ (u : State). (u ≡ at_done operation at) × Tested test operation at) (IsInside g) (op_done line test operation at) _ (op_done_leaves line test operation at) (λ u both.
+    bind_by (λ (u : State). (u ≡ at_done operation at)
+    × Tested test operation at) (IsInside g) (op_done line test operation at) _ (op_done_leaves line test operation at) (λ u both.
     let once = (passes_of s.accesses s.body test operation both.1.fine).names in
     subst (λ (v : State). IsInside g (record v { names = with_idle handles v.names })) (sym both.0)
     (grown_sound g n 0 (length handles) s test operation (with_idle handles s.names) s.lines inside counted both.1

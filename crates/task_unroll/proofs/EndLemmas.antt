@@ -44,7 +44,8 @@ plain_stays (what.Waiting later handles status) h = refl
 pub record IsSkipped (depth next : ℕ) (stmts : List Stmt) : Type 0 where
   pub whole : (more : List Stmt) → skipped depth (stmts ++ more) ≡ length stmts + skipped next more
 
-one : {depth next last : ℕ} {s : Stmt} {stmts : List Stmt} → deeper (mark s.what) depth ≡ Some next → IsSkipped next last stmts → IsSkipped depth last (s ∷ stmts)
+one : {depth next last : ℕ} {s : Stmt} {stmts : List Stmt} → deeper (mark s.what) depth ≡ Some next → IsSkipped next last stmts
+    → IsSkipped depth last (s ∷ stmts)
 one {depth} {next} {last} {s} {stmts} h tail =
     record { whole = λ more. ap (λ n. or_more n (λ k. skipped k (stmts ++ more))) h ∙ omega (arith, tail.whole more) }
 
@@ -73,4 +74,5 @@ pub closed_at : (stmts : List Stmt) (place : ℕ) (b : Block) (s : Stmt) (more :
     → drop place stmts ≡ written b ++ (s ∷ more) → drop (close_of stmts place) stmts ≡ s ∷ more
 unfolding close_of
 closed_at stmts place b s more h e =
-    ap (λ n. drop (place + n) stmts) (ap (skipped 0) e ∙ (skips 0 b).whole (s ∷ more) ∙ ap (λ n. length (written b) + or_more n (λ k. skipped k more)) h ∙ omega arith) ∙ behind stmts place (written b) (s ∷ more) e
+    ap (λ n. drop (place + n) stmts) (ap (skipped 0) e ∙ (skips 0 b).whole (s ∷ more) ∙ ap (λ n. length (written b) + or_more n (λ k. skipped k more)) h
+    ∙ omega arith) ∙ behind stmts place (written b) (s ∷ more) e

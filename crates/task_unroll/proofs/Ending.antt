@@ -16,7 +16,7 @@ use Rattle.task_unroll.specs.Unrolling.{at}
 use Rattle.task_unroll.specs.States.{Counts, State}
 use Rattle.task_unroll.specs.Acts.{listed, none_left, task_ended}
 use Rattle.task_unroll.proofs.Results.{Holds, bind}
-use Rattle.task_unroll.proofs.Sound.{Stage, Continues, HasArrays, HasCounts, InTurn, IsBegun, AreTasks, HasNames, IsSound, IsMain, IsInside}
+use Rattle.task_unroll.proofs.Sound.{none_follow, Stage, Continues, HasArrays, HasCounts, InTurn, IsBegun, AreTasks, HasNames, IsSound, IsMain, IsInside}
 use Rattle.task_unroll.proofs.Opening.{closing}
 
 nothing_left : (lines left : List ℕ) (u : ⊤) → none_left lines left ≡ Ok u → left ≡ []
@@ -62,10 +62,14 @@ counts_end line s has =
 turn_ended : (line : ℕ) (s : State) → InTurn s.rank s.epoch s.tasks → InTurn s.rank s.epoch (s.tasks ++ ended line s ∷ [])
 turn_ended line s turn = record {
   order = all_pairs_push InOrder s.tasks (ended line s) turn.order turn.past;
-  past = All-push (λ (task : TaskDef). (task.rank ≤ s.rank) × (task.rank ≡ s.rank → task.epoch ≤ s.epoch)) s.tasks (ended line s) turn.past (omega arith, λ same. omega arith);
+  past = All-push (λ (task : TaskDef). (task.rank ≤ s.rank) × (task.rank ≡ s.rank → task.epoch ≤ s.epoch)) s.tasks (ended line s) turn.past (
+    omega arith,
+    λ same. omega arith,
+  );
 }
 
-is_task : (g : Stage) (line : ℕ) (s : State) (p : Program) → left_after 0 s.body ≡ [] → IsSound g s → Continues g.prior s.rank s.size s.comms s.lens p → IsTask p (ended line s)
+is_task : (g : Stage) (line : ℕ) (s : State) (p : Program) → left_after 0 s.body ≡ [] → IsSound g s → Continues g.prior s.rank s.size s.comms s.lens p
+    → IsTask p (ended line s)
 is_task g line s p none sound c =
     let below = sound.below in
     let ranks = c.ranks in
@@ -83,12 +87,8 @@ begun_none prior rank size comms lens = record {
   regions = λ p c. All-nil (λ (access : Access). IsSpan p rank access.span);
   apart = λ i j d low high. absurd (omega arith);
   operations = λ p c task same_rank same_accesses. All-nil (IsOperation p task);
-  follows = λ earlier later operation is. none earlier later operation is;
+  follows = none_follow [] [] refl;
 }
-  where
-    none : (earlier later : List Op) (operation : Op) → [] ≡ earlier ++ operation ∷ later → Follows earlier operation
-    none [] later operation is = absurd (cc)
-    none (o ∷ earlier) later operation is = absurd (cc)
 
 pub task_ended_sound : (g : Stage) (line : ℕ) (s : State) → IsInside g s → Holds (IsMain (closing g)) (task_ended line s)
 unfolding task_ended

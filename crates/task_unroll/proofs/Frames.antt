@@ -61,7 +61,8 @@ pub record IsSet (stmts : List Stmt) (first : ℕ) (name : List ℕ) (body : Blo
 
 abbrev pub AreSet : List Stmt → List Frame → Type 0
 AreSet stmts [] = Unit {0}
-AreSet stmts (Turning first name x to body last rest ∷ frames) = IsSet stmts first name body (stmt last what.End ∷ (written rest ++ tail frames)) × AreSet stmts frames
+AreSet stmts (Turning first name x to body last rest ∷ frames) = IsSet stmts first name body (stmt last what.End ∷ (written rest ++ tail frames))
+    × AreSet stmts frames
 AreSet stmts (First middle other last rest ∷ frames) = AreSet stmts frames
 AreSet stmts (Last last rest ∷ frames) = AreSet stmts frames
 AreSet stmts (Working line last rest ∷ frames) = AreSet stmts frames

@@ -41,7 +41,8 @@ regroup (Err kind) done more = refl
 pub record IsGathered {A B : Type 0} (f : A → Result B FaultKind) (items : List A) (i : ℕ) (done : List B) (whole : Result (List B) FaultKind) : Type 0 where
   pub due : whole ≡ onto done (each f (drop i items))
 
-pub next_gathered : {A B : Type 0} (f : A → Result B FaultKind) (items : List A) (i : ℕ) (done : List B) (whole : Result (List B) FaultKind) (line : ℕ) (x : A) (y : B)
+pub next_gathered : {A B : Type 0} (f : A
+    → Result B FaultKind) (items : List A) (i : ℕ) (done : List B) (whole : Result (List B) FaultKind) (line : ℕ) (x : A) (y : B)
     → IsGathered f items i done whole → i < length items → x ≡ get_or items i x → at line (f x) ≡ Ok y → IsGathered f items (i + 1) (done ++ y ∷ []) whole
 next_gathered f items i done whole line x y so_far below is gives = record {
   due =
@@ -53,11 +54,13 @@ next_gathered f items i done whole line x y so_far below is gives = record {
 }
 
 -- a fault of the next item is the fault of the whole
-pub fault_gathered : {A B : Type 0} (f : A → Result B FaultKind) (items : List A) (i : ℕ) (done : List B) (whole : Result (List B) FaultKind) (line : ℕ) (x : A) (e : ExpandRefusal)
+pub fault_gathered : {A B : Type 0} (f : A
+    → Result B FaultKind) (items : List A) (i : ℕ) (done : List B) (whole : Result (List B) FaultKind) (line : ℕ) (x : A) (e : ExpandRefusal)
     → IsGathered f items i done whole → i < length items → x ≡ get_or items i x → Fails e (at line (f x)) → Fails e (at line whole)
 fault_gathered f items i done whole line x e so_far below is fails =
     let split = so_far.due ∙ at_drop_more (λ xs. onto done (each f xs)) items i x below ∙ ap (λ z. onto done (each f (z ∷ drop (i + 1) items))) (sym is) in
-    subst (λ r. Fails e (at line r)) (sym (split ∙ regroup (f x) done (each f (drop (i + 1) items)))) (stopped line (f x) (λ z. onto done (each f (drop (i + 1) items) >>= λ ys. Ok (z ∷ ys))) e fails)
+    subst (λ r. Fails e (at line r)) (sym (split
+    ∙ regroup (f x) done (each f (drop (i + 1) items)))) (stopped line (f x) (λ z. onto done (each f (drop (i + 1) items) >>= λ ys. Ok (z ∷ ys))) e fails)
 
 -- nothing is left
 pub all_gathered : {A B : Type 0} (f : A → Result B FaultKind) (items : List A) (i : ℕ) (done : List B) (whole : Result (List B) FaultKind) (line : ℕ)

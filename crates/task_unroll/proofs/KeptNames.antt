@@ -43,14 +43,16 @@ once_with names name m once new one other n is also =
     ]
 
 -- a name gets a meaning that is no request
-pub names_with : (arrays comms : ℕ) (names : Names) (body : List Op) (name : List ℕ) (m : Meaning) → HasNames arrays comms names body → IsFit arrays comms body m
+pub names_with : (arrays comms : ℕ) (names : Names) (body : List Op) (name : List ℕ) (m : Meaning) → HasNames arrays comms names body
+    → IsFit arrays comms body m
     → ((n : ℕ) → m ≡ meaning.Posted n → ⊥) → HasNames arrays comms (with_meaning names name m) body
 names_with arrays comms names body name m has fit plain = record {
   fit = all_mean_with (IsFit arrays comms body) names name m has.fit fit;
   once = once_with names name m has.once (λ n other is also. plain n is);
 }
 
-fit_weaker : (arrays comms more_arrays more_comms : ℕ) (body : List Op) (m : Meaning) → arrays ≤ more_arrays → comms ≤ more_comms → IsFit arrays comms body m → IsFit more_arrays more_comms body m
+fit_weaker : (arrays comms more_arrays more_comms : ℕ) (body : List Op) (m : Meaning) → arrays ≤ more_arrays → comms ≤ more_comms → IsFit arrays comms body m
+    → IsFit more_arrays more_comms body m
 fit_weaker arrays comms more_arrays more_comms body (meaning.Variable value) a c fit = tt
 fit_weaker arrays comms more_arrays more_comms body (meaning.Array number) a c fit = omega arith
 fit_weaker arrays comms more_arrays more_comms body (meaning.Communicator number) a c fit = omega arith
@@ -64,7 +66,8 @@ names_weaker arrays comms more_arrays more_comms names body a c has = record {
   once = has.once;
 }
 
-fit_by_requests : (arrays comms : ℕ) (body after : List Op) (m : Meaning) → ((n : ℕ) → m ≡ meaning.Posted n → Contains (left_after 0 body) n → Contains (left_after 0 after) n)
+fit_by_requests : (arrays comms : ℕ) (body after : List Op) (m : Meaning)
+    → ((n : ℕ) → m ≡ meaning.Posted n → Contains (left_after 0 body) n → Contains (left_after 0 after) n)
     → IsFit arrays comms body m → IsFit arrays comms after m
 fit_by_requests arrays comms body after (meaning.Variable value) turns fit = tt
 fit_by_requests arrays comms body after (meaning.Array number) turns fit = fit

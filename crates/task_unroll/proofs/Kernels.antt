@@ -13,7 +13,8 @@ use Rattle.rt_base.specs.declared.data.Op.TheVariants as op
 use Rattle.rt_base.specs.Spans.{span_len}
 use Rattle.rt_base.specs.WellFormed.{OfSpan, NoSource, OneSource, TwoSources, IsKernelCall}
 use Rattle.task_unroll.specs.Checks.{differs, has_wrong_length, is_no_shift, has_bad_shift, is_nothing, has_no_source}
-use Rattle.task_unroll.specs.Acts.{source_count, number_count, kernel_call}
+use Rattle.rt_base.specs.KernelForms.{source_count, number_count}
+use Rattle.task_unroll.specs.Acts.{kernel_call}
 use Rattle.task_unroll.proofs.Results.{Holds}
 use Rattle.task_unroll.proofs.Cells.{both_true, both_false, not_false}
 
@@ -38,7 +39,8 @@ sources_of (suc (suc (suc n))) spans is = tt
 
 -- what a kernel's operands give: its destination, and its sources by their number
 abbrev pub IsCall : (Span → Type 0) → Kernel → Op → Type 0
-IsCall Fact kind (op.Compute of dst left right value step) = (of ≡ kind) × Fact dst × Sources (source_count kind) left right × OfSpan Fact left × OfSpan Fact right
+IsCall Fact kind (op.Compute of dst left right value step) = (of ≡ kind) × Fact dst × Sources (source_count kind) left right × OfSpan Fact left
+    × OfSpan Fact right
 IsCall Fact kind (op.Post how span whom tag comm status) = ⊥
 IsCall Fact kind (op.Await later handles status) = ⊥
 
@@ -52,12 +54,14 @@ each_get Fact [] n each = tt
 each_get Fact (span ∷ spans) zero each = each.0
 each_get Fact (span ∷ spans) (suc n) each = each_get Fact spans n each.1
 
-pub kernel_call_is : (Fact : Span → Type 0) (kind : Kernel) (spans : List Span) (numbers : List ℤ) → Each Fact spans → Holds (IsCall Fact kind) (kernel_call kind spans numbers)
+pub kernel_call_is : (Fact : Span → Type 0) (kind : Kernel) (spans : List Span) (numbers : List ℤ) → Each Fact spans
+    → Holds (IsCall Fact kind) (kernel_call kind spans numbers)
 kernel_call_is Fact kind [] numbers each = tt
 kernel_call_is Fact kind (dst ∷ sources) numbers each = by (nat_eq (length sources) (source_count kind) && nat_eq (length numbers) (number_count kind)) refl
   where
     by : (b : Bool) → nat_eq (length sources) (source_count kind) && nat_eq (length numbers) (number_count kind) ≡ b → Holds (IsCall Fact kind)
-        (if b then Ok (op.Compute kind dst (slice_get sources 0) (slice_get sources 1) (slice_index_or numbers 0 (pos 0)) (slice_index_or numbers 1 (pos 0))) else Err fault.Shape)
+        (if b then Ok (op.Compute kind dst (slice_get sources 0) (slice_get sources 1) (slice_index_or numbers 0 (pos 0)) (slice_index_or numbers 1 (pos 0)))
+        else Err fault.Shape)
     by true h =
         let both = both_true (nat_eq (length sources) (source_count kind)) (nat_eq (length numbers) (number_count kind)) h in
         let count : nat_eq (length sources) (source_count kind) ≡ true = both.0 in
@@ -70,12 +74,14 @@ same_len len source h = let same : nat_eq (span_len source) len ≡ true = not_f
 one_len : (dst : Span) → not (nat_eq (span_len dst) 1) ≡ false → span_len dst ≡ 1
 one_len dst h = let same : nat_eq (span_len dst) 1 ≡ true = not_false (nat_eq (span_len dst) 1) h in grind (arith, nat_tests)
 
-one_source : (Fact : Span → Type 0) (left right : Option Span) → OneSource (λ a. ⊤) left right → ((a : Span) → left ≡ Some a → Fact a) → OneSource Fact left right
+one_source : (Fact : Span → Type 0) (left right : Option Span) → OneSource (λ a. ⊤) left right → ((a : Span) → left ≡ Some a → Fact a)
+    → OneSource Fact left right
 one_source Fact None right is each = is
 one_source Fact (Some left) None is each = each left refl
 one_source Fact (Some left) (Some right) is each = is
 
-two_sources : (Fact : Span → Span → Type 0) (left right : Option Span) → TwoSources (λ a b. ⊤) left right → ((a b : Span) → left ≡ Some a → right ≡ Some b → Fact a b) → TwoSources Fact left right
+two_sources : (Fact : Span → Span → Type 0) (left right : Option Span) → TwoSources (λ a b. ⊤) left right
+    → ((a b : Span) → left ≡ Some a → right ≡ Some b → Fact a b) → TwoSources Fact left right
 two_sources Fact None right is each = is
 two_sources Fact (Some left) None is each = is
 two_sources Fact (Some left) (Some right) is each = each left right refl refl
@@ -83,7 +89,8 @@ two_sources Fact (Some left) (Some right) is each = each left right refl refl
 copied : (len : ℕ) (left right : Option Span) → Sources 1 left right → differs len left ≡ false → OneSource (λ a. span_len a ≡ len) left right
 copied len left right is h = one_source (λ a. span_len a ≡ len) left right is (λ a same. same_len len a (ap (differs len) (sym same) ∙ h))
 
-joined : (len : ℕ) (left right : Option Span) → Sources 2 left right → differs len left || differs len right ≡ false → TwoSources (λ a b. (span_len a ≡ len) × (span_len b ≡ len)) left right
+joined : (len : ℕ) (left right : Option Span) → Sources 2 left right → differs len left || differs len right ≡ false
+    → TwoSources (λ a b. (span_len a ≡ len) × (span_len b ≡ len)) left right
 joined len left right is h =
     let both = both_false (differs len left) (differs len right) h in
     two_sources (λ a b. (span_len a ≡ len) × (span_len b ≡ len)) left right is
@@ -97,7 +104,10 @@ shifted (negsuc places) h = absurd (cc)
 
 chosen : (dst : Span) (left right : Option Span) → Sources 1 left right → not (nat_eq (span_len dst) 1) ≡ false → is_nothing left ≡ false
     → OneSource (λ a. (span_len dst ≡ 1) × (0 < span_len a)) left right
-chosen dst left right is one some = one_source (λ a. (span_len dst ≡ 1) × (0 < span_len a)) left right is (λ a same. (one_len dst one, some_len a (ap is_nothing (sym same) ∙ some)))
+chosen dst left right is one some = one_source (λ a. (span_len dst ≡ 1) × (0 < span_len a)) left right is (λ a same. (
+  one_len dst one,
+  some_len a (ap is_nothing (sym same) ∙ some),
+))
   where
     some_len : (a : Span) → is_nothing (Some a) ≡ false → 0 < span_len a
     some_len a h = let differs_0 : nat_eq (span_len a) 0 ≡ false = h in grind (arith, nat_tests)
@@ -114,6 +124,7 @@ is_kernel_call kernel.Scale dst left right value sources lengths shift some = co
 is_kernel_call kernel.Shift dst left right value sources lengths shift some =
     let places = shifted value shift in (copied (span_len dst) left right sources lengths, places.0, places.1)
 is_kernel_call kernel.Jacobi2 dst left right value sources lengths shift some = copied (span_len dst + 2) left right sources lengths
-is_kernel_call kernel.Sum dst left right value sources lengths shift some = one_source (λ a. span_len dst ≡ 1) left right sources (λ a same. one_len dst lengths)
+is_kernel_call kernel.Sum dst left right value sources lengths shift some =
+    one_source (λ a. span_len dst ≡ 1) left right sources (λ a same. one_len dst lengths)
 is_kernel_call kernel.Least dst left right value sources lengths shift some = chosen dst left right sources lengths some
 is_kernel_call kernel.Greatest dst left right value sources lengths shift some = chosen dst left right sources lengths some

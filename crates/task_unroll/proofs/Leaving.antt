@@ -10,6 +10,7 @@ pub none_is_left : (lines left : List ℕ) → None ≡ slice_get left 0 → non
 none_is_left lines [] is = refl
 none_is_left lines (n ∷ more) is = absurd (cc)
 
-pub one_is_left : (lines left : List ℕ) (n : ℕ) → Some n ≡ slice_get left 0 → none_left lines left ≡ Err (refusal.Fault (slice_index_or lines n 0) fault.RequestLeft)
+pub one_is_left : (lines left : List ℕ) (n : ℕ) → Some n ≡ slice_get left 0
+    → none_left lines left ≡ Err (refusal.Fault (slice_index_or lines n 0) fault.RequestLeft)
 one_is_left lines [] n is = absurd (cc)
 one_is_left lines (m ∷ more) n is = cc

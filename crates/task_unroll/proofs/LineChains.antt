@@ -6,7 +6,8 @@ use Rattle.task_unroll.specs.declared.refusal.ExpandRefusal.TheVariants as refus
 use Rattle.task_unroll.specs.Unrolling.{◌>>=◌, at, Fails}
 
 -- what stops the first part stops the chain
-pub stopped : {A B : Type 0} (line : ℕ) (c : Result A FaultKind) (f : A → Result B FaultKind) (e : ExpandRefusal) → Fails e (at line c) → Fails e (at line (c >>= f))
+pub stopped : {A B : Type 0} (line : ℕ) (c : Result A FaultKind) (f : A → Result B FaultKind) (e : ExpandRefusal) → Fails e (at line c)
+    → Fails e (at line (c >>= f))
 stopped line c f refusal.Memory fails = tt
 stopped line (Ok x) f (refusal.Fault other kind) fails = absurd (cc)
 stopped line (Err found) f (refusal.Fault other kind) fails = cc

@@ -27,7 +27,8 @@ use Rattle.task_unroll.proofs.KeptNames.{names_with, names_weaker}
 use Rattle.task_unroll.proofs.Outer.{step_sound}
 
 -- the tasks and the open task stay right, as arrays and communicators are made
-tasks_more : (g : Stage) (rank size comms more : ℕ) (lens rest : List ℕ) (tasks : List TaskDef) → comms ≤ more → AreTasks g rank size comms lens tasks → AreTasks g rank size more (lens ++ rest) tasks
+tasks_more : (g : Stage) (rank size comms more : ℕ) (lens rest : List ℕ) (tasks : List TaskDef) → comms ≤ more → AreTasks g rank size comms lens tasks
+    → AreTasks g rank size more (lens ++ rest) tasks
 tasks_more g rank size comms more lens rest tasks above are p c = are p (continues_less g.prior rank size comms more lens rest p above c)
 
 begun_more : (prior : List ℕ) (rank size comms more : ℕ) (lens rest : List ℕ) (accesses : List Access) (body : List Op) → comms ≤ more
@@ -43,7 +44,8 @@ begun_more prior rank size comms more lens rest accesses body above begun = reco
 abbrev pub one_array : Stage → Stage
 one_array g = record g { arrays = g.arrays + 1 }
 
-arrays_more : (g : Stage) (cells : ℕ) (arrays : List (List ℕ)) (lens shows : List ℕ) (comms : ℕ) (name : List ℕ) (size : ℕ) → length arrays + 1 ≤ 1024 → cells + size ≤ 16777216
+arrays_more : (g : Stage) (cells : ℕ) (arrays : List (List ℕ)) (lens shows : List ℕ) (comms : ℕ) (name : List ℕ) (size : ℕ) → length arrays + 1 ≤ 1024
+    → cells + size ≤ 16777216
     → HasArrays g cells arrays lens shows comms → HasArrays (one_array g) (cells + size) (arrays ++ name ∷ []) (lens ++ size ∷ []) shows comms
 arrays_more g cells arrays lens shows comms name size few few_cells has =
     let count = has.count in
@@ -99,7 +101,10 @@ array_made_sound g line name len s main = bind_stepped (IsMain (one_array g)) s 
         tasks = tasks_more g s.rank s.size s.comms s.comms s.lens (size ∷ []) s.tasks (omega arith) step.tasks;
         begun = begun_more g.prior s.rank s.size s.comms s.comms s.lens (size ∷ []) s.accesses s.body (omega arith) step.begun;
         names = names_with (g.arrays + 1) g.comms s.names s.body name (meaning.Array (length s.arrays))
-            (names_weaker g.arrays g.comms (g.arrays + 1) g.comms s.names s.body (omega arith) (omega arith) step.names) (omega (arith, count)) (λ k is. absurd (cc));
+            (names_weaker g.arrays g.comms (g.arrays + 1) g.comms s.names s.body (omega arith) (omega arith) step.names) (omega (
+              arith,
+              count,
+            )) (λ k is. absurd (cc));
         before = names_weaker g.arrays g.comms (g.arrays + 1) g.comms s.before [] (omega arith) (omega arith) step.before;
       };
       no_accesses = main.no_accesses;
@@ -144,7 +149,10 @@ comm_made_sound g line name s main = bind_stepped (IsMain (one_comm g)) s _ (λ 
         tasks = subst (λ (lens : List ℕ). AreTasks g s.rank s.size (s.comms + 1) lens s.tasks) (append-nil s.lens) tasks;
         begun = subst (λ (lens : List ℕ). IsBegun g.prior s.rank s.size (s.comms + 1) lens s.accesses s.body) (append-nil s.lens) begun;
         names = names_with g.arrays (g.comms + 1) s.names s.body name (meaning.Communicator s.comms)
-            (names_weaker g.arrays g.comms g.arrays (g.comms + 1) s.names s.body (omega arith) (omega arith) step.names) (omega (arith, comm_count)) (λ k is. absurd (cc));
+            (names_weaker g.arrays g.comms g.arrays (g.comms + 1) s.names s.body (omega arith) (omega arith) step.names) (omega (
+              arith,
+              comm_count,
+            )) (λ k is. absurd (cc));
         before = names_weaker g.arrays g.comms g.arrays (g.comms + 1) s.before [] (omega arith) (omega arith) step.before;
       };
       no_accesses = main.no_accesses;

@@ -26,12 +26,14 @@ pub meaning_here : (names : Names) (name : List ℕ) (m : Meaning) → meaning_o
 meaning_here [] name m = ap (λ (b : Bool). cond b (Some m) None) (bytes_same name)
 meaning_here (e ∷ es) name m = by (meaning_here es name m) (bytes_eq name e.0) refl
   where
-    by : meaning_of (with_meaning es name m) name ≡ Some m → (b : Bool) → bytes_eq name e.0 ≡ b → lookup (bytes_eq name) (if b then (e.0, m) ∷ es else e ∷ with_meaning es name m) ≡ Some m
+    by : meaning_of (with_meaning es name m) name ≡ Some m → (b : Bool) → bytes_eq name e.0 ≡ b
+        → lookup (bytes_eq name) (if b then (e.0, m) ∷ es else e ∷ with_meaning es name m) ≡ Some m
     by rest true h = ap (λ (b : Bool). cond b (Some m) (lookup (bytes_eq name) es)) h
     by rest false h = ap (λ (b : Bool). cond b (Some e.1) (lookup (bytes_eq name) (with_meaning es name m))) h ∙ rest
 
 -- each other name means what it meant
-pub meaning_elsewhere : (names : Names) (name other : List ℕ) (m : Meaning) → bytes_eq other name ≡ false → meaning_of (with_meaning names name m) other ≡ meaning_of names other
+pub meaning_elsewhere : (names : Names) (name other : List ℕ) (m : Meaning) → bytes_eq other name ≡ false
+    → meaning_of (with_meaning names name m) other ≡ meaning_of names other
 meaning_elsewhere [] name other m differs = ap (λ (b : Bool). cond b (Some m) None) differs
 meaning_elsewhere (e ∷ es) name other m differs = by (meaning_elsewhere es name other m differs) (bytes_eq name e.0) refl
   where
@@ -50,11 +52,13 @@ AllMean Fact names = (name : List ℕ) (m : Meaning) → meaning_of names name �
 pub new_or_old : (names : Names) (name other : List ℕ) (m n : Meaning) → meaning_of (with_meaning names name m) other ≡ Some n
     → ((other ≡ name) × (m ≡ n)) ⊎ ((bytes_eq other name ≡ false) × (meaning_of names other ≡ Some n))
 new_or_old names name other m n is = elim (same_or_not other name) [
-  | inl same ↦ let here = meaning_here names name m in let at = subst (λ (k : List ℕ). meaning_of (with_meaning names name m) k ≡ Some n) same is in inl (same, (cc))
+  | inl same ↦ let here = meaning_here names name m in let at = subst (λ (k : List ℕ). meaning_of (with_meaning names name m) k ≡ Some n) same is in
+      inl (same, (cc))
   | inr differs ↦ inr (differs, sym (meaning_elsewhere names name other m differs) ∙ is)
 ]
 
-pub all_mean_with : (Fact : Meaning → Type 0) (names : Names) (name : List ℕ) (m : Meaning) → AllMean Fact names → Fact m → AllMean Fact (with_meaning names name m)
+pub all_mean_with : (Fact : Meaning → Type 0) (names : Names) (name : List ℕ) (m : Meaning) → AllMean Fact names → Fact m
+    → AllMean Fact (with_meaning names name m)
 all_mean_with Fact names name m all fact other n is = elim (new_or_old names name other m n is) [
   | inl new ↦ subst Fact new.1 fact
   | inr old ↦ all other n old.1
@@ -62,4 +66,5 @@ all_mean_with Fact names name m all fact other n is = elim (new_or_old names nam
 
 -- each request is named by one name at most
 abbrev pub NamedOnce : Names → Type 0
-NamedOnce names = (name other : List ℕ) (n : ℕ) → meaning_of names name ≡ Some (meaning.Posted n) → meaning_of names other ≡ Some (meaning.Posted n) → name ≡ other
+NamedOnce names = (name other : List ℕ) (n : ℕ) → meaning_of names name ≡ Some (meaning.Posted n) → meaning_of names other ≡ Some (meaning.Posted n)
+    → name ≡ other

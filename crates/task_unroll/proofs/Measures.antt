@@ -64,7 +64,10 @@ same : {s t u : State} → IsCounted s t → u.counts.steps ≡ t.counts.steps �
 same h e = record { more = omega arith; kept = omega arith }
 
 kept_counts : (s : State) (fits : Bool) → nat_le (s.counts.steps + 1) 16777216 ≡ fits
-    → Holds (IsCounted s) ((if fits then Ok (s.counts.steps + 1) else Err (refusal.Limit limit.Steps)) >>= (λ n. Ok (record s { counts = record s.counts { steps = n } })))
+    → Holds (IsCounted s) ((if fits then Ok (s.counts.steps + 1) else Err (refusal.Limit limit.Steps)) >>= (λ n. Ok (record s {
+      counts =
+          record s.counts { steps = n };
+    })))
 kept_counts s true h = ok (record { more = omega arith; kept = grind (arith, nat_tests) })
 kept_counts s false h = record { held = tt }
 
@@ -113,16 +116,20 @@ kernel_counts : (line : ℕ) (kind : Kernel) (texts : List SpanText) (terms : Li
 unfolding kernel_done
 kernel_counts line kind texts terms s = bind (operated_counts 0 0 s) (λ t h. search (skip, op_counts, h))
 
-call_counts : (line : ℕ) (call : How) (handle : Option (List ℕ)) (text : SpanText) (to : PeerText) (number : TagText) (on : Option (List ℕ)) (status : Option SpanText) (s : State)
+call_counts : (line : ℕ) (call : How) (handle : Option (List ℕ)) (text : SpanText) (to : PeerText) (number : TagText) (on : Option (List ℕ))
+    (status : Option SpanText) (s : State)
     → Holds (IsCounted s) (call_done line call handle text to number on status s)
 unfolding call_done
 call_counts line call handle text to number on status s =
     skip (at line (passed (call_checks call handle to number status))) (λ _. bind (operated_counts 1 0 s) (λ t h.
-    skip (at line (handle_free t handle)) (λ _. skip (at line (span_of t text)) (λ span. skip (at line (peer_value t to)) (λ whom. skip (at line (tag_value t number)) (λ chosen.
-    skip (at line (communicator_of t on)) (λ comm. skip (at line (span_or_none t status)) (λ cells. skip (at line (peer_of t.size whom)) (λ peer. skip (at line (tag_of chosen)) (λ tag.
+    skip (at line (handle_free t handle))
+    (λ _. skip (at line (span_of t text)) (λ span. skip (at line (peer_value t to)) (λ whom. skip (at line (tag_value t number)) (λ chosen.
+    skip (at line (communicator_of t on))
+    (λ comm. skip (at line (span_or_none t status)) (λ cells. skip (at line (peer_of t.size whom)) (λ peer. skip (at line (tag_of chosen)) (λ tag.
     bind (op_counts line (handle_check t handle) (op.Post call span peer tag comm cells) h) (λ u k. ok (same k refl))))))))))))
 
-wait_counts : (line : ℕ) (later : Bool) (handles : List (List ℕ)) (status : Option SpanText) (s : State) → Holds (IsCounted s) (wait_done line later handles status s)
+wait_counts : (line : ℕ) (later : Bool) (handles : List (List ℕ)) (status : Option SpanText) (s : State)
+    → Holds (IsCounted s) (wait_done line later handles status s)
 unfolding wait_done
 wait_counts line later handles status s = bind (operated_counts 0 (length handles) s) (λ t h.
     skip (at line (handles_of t handles)) (λ requests. skip (at line (span_or_none t status)) (λ cells.
@@ -163,7 +170,8 @@ line_goes line what.Task w = ok (Goes.Moves refl (omega arith))
 line_goes line (what.Touch mode span) w = ok (Goes.Moves refl (omega arith))
 line_goes line what.Do w = ok (Goes.Moves refl (omega arith))
 line_goes line (what.Kern kind spans values) w = bind (kernel_counts line kind spans.items values.items w.state) (λ s h. ok (Goes.Counts h))
-line_goes line (what.Posting how handle span peer tag comm status) w = bind (call_counts line how handle span peer tag comm status w.state) (λ s h. ok (Goes.Counts h))
+line_goes line (what.Posting how handle span peer tag comm status) w =
+    bind (call_counts line how handle span peer tag comm status w.state) (λ s h. ok (Goes.Counts h))
 line_goes line (what.Waiting later handles status) w = bind (wait_counts line later handles.items status w.state) (λ s h. ok (Goes.Counts h))
 
 -- a turn was counted, or no count has changed and the walk is behind the `for`
@@ -171,7 +179,8 @@ data Turned (w v : Spot) (behind : ℕ) : Type 0 where
   Again : IsCounted w.state v.state → Turned w v behind
   Over : v.state.counts.steps ≡ w.state.counts.steps → v.place ≡ behind → Turned w v behind
 
-turn_goes_by : (name : List ℕ) (t : Turns) (behind : ℕ) (w : Spot) (more : Bool) → int_lt t.next t.to ≡ more → Holds (λ v. Turned w v behind) (turn name t behind w)
+turn_goes_by : (name : List ℕ) (t : Turns) (behind : ℕ) (w : Spot) (more : Bool) → int_lt t.next t.to ≡ more
+    → Holds (λ v. Turned w v behind) (turn name t behind w)
 unfolding turn
 turn_goes_by name t behind w true e = rw e (bind (stepped_counts w.state) (λ s h. ok (Turned.Again (same h refl))))
 turn_goes_by name t behind w false e = rw e (ok (Turned.Over refl refl))
@@ -193,9 +202,11 @@ turned_from h (Turned.Over e f) = Goes.Counts (same h e)
 loop_goes : (end line : ℕ) (name : List ℕ) (from to : Term) (w : Spot) → Holds (Goes w) (loop_met end line name from to w)
 unfolding loop_met
 loop_goes end line name from to w =
-    bind (bounds_count line name from to w.state) (λ b h. mapped (turn_goes name (record { at = w.place; next = b.1.0; to = b.1.1 }) (end + 1) (record w { state = b.0 })) (λ v k. turned_from h k))
+    bind (bounds_count line name from to w.state)
+    (λ b h. mapped (turn_goes name (record { at = w.place; next = b.1.0; to = b.1.1 }) (end + 1) (record w { state = b.0 })) (λ v k. turned_from h k))
 
-branch_counts : (stmts : List Stmt) (end : ℕ) (w : Spot) (s : State) (holds : Bool) → IsCounted w.state s → Goes w (branch stmts end holds (record w { state = s }))
+branch_counts : (stmts : List Stmt) (end : ℕ) (w : Spot) (s : State) (holds : Bool) → IsCounted w.state s
+    → Goes w (branch stmts end holds (record w { state = s }))
 unfolding branch
 branch_counts stmts end w s true h = Goes.Counts h
 branch_counts stmts end w s false h = Goes.Counts h
@@ -220,7 +231,8 @@ from_levels (Goes.Moves e f) = Goes.Moves e f
 level_goes : (stmts : List Stmt) (levels : List Level) (w : Spot) → Holds (Goes w) (level_ended stmts levels w)
 unfolding turn_ended
 level_goes stmts [] w = ok (Goes.Moves refl (omega arith))
-level_goes stmts (level.Turns t ∷ levels) w = mapped (turn_or_on_goes (variable_of (slice_get stmts t.at)) t (record w { levels = levels })) (λ v k. from_levels k)
+level_goes stmts (level.Turns t ∷ levels) w =
+    mapped (turn_or_on_goes (variable_of (slice_get stmts t.at)) t (record w { levels = levels })) (λ v k. from_levels k)
 level_goes stmts (level.Branch ∷ levels) w = ok (Goes.Moves refl (omega arith))
 level_goes stmts (level.Task line ∷ levels) w = bind (end_counts line w.state) (λ s e. ok (Goes.Moves e (omega arith)))
 
@@ -275,7 +287,8 @@ goes_less w v long h (Goes.Moves same later) = rw same (omega arith)
 
 -- so it is after each step that goes on
 pub falls : (stmts : List Stmt) (w v : Spot) (s : Stmt) → slice_get stmts w.place ≡ Some s → step stmts s.line s.what w ≡ Ok v
-    → (16777216 - v.state.counts.steps) * (length stmts + 1) + (length stmts - v.place) < (16777216 - w.state.counts.steps) * (length stmts + 1) + (length stmts - w.place)
+    → (16777216 - v.state.counts.steps) * (length stmts + 1) + (length stmts - v.place) < (16777216 - w.state.counts.steps) * (length stmts + 1) +
+    (length stmts - w.place)
 falls stmts w v s here e =
     let goes = subst (Holds (Goes w)) e (step_goes stmts s.line s.what w) in
     goes_less w v (length stmts) (slice_get_within stmts w.place s here) goes.held

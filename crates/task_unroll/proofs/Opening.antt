@@ -27,7 +27,7 @@ use Rattle.task_unroll.specs.Acts.{listed, task_begun, access_made, none_left, t
 use Rattle.task_unroll.proofs.Results.{Holds, bind, holds_of, passed_first}
 use Rattle.task_unroll.proofs.Cells.{both_false, apart_by}
 use Rattle.task_unroll.proofs.Chains.{at_step, bind_at, bind_kept, bind_stepped}
-use Rattle.task_unroll.proofs.Sound.{Stage, Continues, HasArrays, HasCounts, InTurn, IsBegun, AreTasks, HasNames, IsSound, IsMain, IsInside}
+use Rattle.task_unroll.proofs.Sound.{none_follow, Stage, Continues, HasArrays, HasCounts, InTurn, IsBegun, AreTasks, HasNames, IsSound, IsMain, IsInside}
 use Rattle.task_unroll.proofs.Outer.{step_sound}
 use Rattle.task_unroll.proofs.Regions.{InLens, span_in, span_of_program}
 
@@ -104,21 +104,35 @@ apart_from (access ∷ accesses) span none zero d below =
     let first = (both_false (shares span access.span || false) (list_any (λ (one : Access). shares_any (one.span ∷ []) span) accesses) none).0 in
     apart_by span access.span (both_false (shares span access.span) false first).0
 apart_from (access ∷ accesses) span none (suc k) d below =
-    apart_from accesses span (both_false (shares span access.span || false) (list_any (λ (one : Access). shares_any (one.span ∷ []) span) accesses) none).1 k d (omega arith)
+    apart_from accesses span (both_false (shares span access.span || false) (list_any (λ (one : Access). shares_any (one.span ∷ []) span) accesses) none).1 k
+    d (omega arith)
 
-accesses_more : (prior : List ℕ) (rank size comms : ℕ) (lens : List ℕ) (accesses : List Access) (mode : Mode) (span : Span) (body : List Op) → body ≡ [] → InLens lens span
+accesses_more : (prior : List ℕ) (rank size comms : ℕ) (lens : List ℕ) (accesses : List Access) (mode : Mode) (span : Span) (body : List Op) → body ≡ []
+    → InLens lens span
     → list_any (λ (access : Access). shares_any (access.span ∷ []) span) accesses ≡ false
     → IsBegun prior rank size comms lens accesses body → IsBegun prior rank size comms lens (accesses ++ record { mode = mode; span = span } ∷ []) body
 accesses_more prior rank size comms lens accesses mode span body none is apart begun = record {
-  regions = λ p c. All-push (λ (access : Access). IsSpan p rank access.span) accesses (record { mode = mode; span = span }) (begun.regions p c) (span_of_program prior rank size comms lens p span c is);
-  apart = all_pairs_push (λ (one other : Access). ¬ Overlaps one.span other.span) accesses (record { mode = mode; span = span }) begun.apart (apart_from accesses span apart);
+  regions = λ p c. All-push (λ (access : Access). IsSpan p rank access.span) accesses (record {
+    mode = mode;
+    span =
+        span;
+  }) (begun.regions p c) (span_of_program prior rank size comms lens p span c is);
+  apart = all_pairs_push (λ (one other : Access). ¬ Overlaps one.span other.span) accesses (record {
+    mode = mode;
+    span =
+        span;
+  }) begun.apart (apart_from accesses span apart);
   operations = λ p c task same_rank same_accesses. subst (λ (ops : List Op). All (IsOperation p task) ops) (sym none) (All-nil (IsOperation p task));
-  follows = begun.follows;
+  follows = none_follow (accesses ++ record { mode = mode; span = span } ∷ []) body none;
 }
 
 counts_access : (opened : ℕ) (counts : Counts) (tasks : List TaskDef) (accesses : List Access) (body : List Op) (mode : Mode) (span : Span)
     → counts.accesses + 1 ≤ 4194304 → counts.access_cells + span_len span ≤ 134217728 → HasCounts opened counts tasks accesses body
-    → HasCounts opened (record counts { accesses = counts.accesses + 1; access_cells = counts.access_cells + span_len span }) tasks (accesses ++ record { mode = mode; span = span } ∷ []) body
+    → HasCounts opened (record counts {
+      accesses = counts.accesses + 1;
+      access_cells =
+          counts.access_cells + span_len span;
+    }) tasks (accesses ++ record { mode = mode; span = span } ∷ []) body
 counts_access opened counts tasks accesses body mode span few few_cells has =
     let count = has.access_count in
     let cells = has.access_cells in

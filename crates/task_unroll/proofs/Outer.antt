@@ -93,7 +93,8 @@ variable_set_sound g line name e s sound = bind_stepped (Kept g s) s _ (λ n.
 turn_later : (rank epoch : ℕ) (tasks : List TaskDef) → InTurn rank epoch tasks → InTurn rank (epoch + 1) tasks
 turn_later rank epoch tasks turn = record {
   order = turn.order;
-  past = All-weaker (λ (task : TaskDef). (task.rank ≤ rank) × (task.rank ≡ rank → task.epoch ≤ epoch)) (λ (task : TaskDef). (task.rank ≤ rank) × (task.rank ≡ rank → task.epoch ≤ epoch + 1))
+  past = All-weaker (λ (task : TaskDef). (task.rank ≤ rank) × (task.rank ≡ rank → task.epoch ≤ epoch)) (λ (task : TaskDef). (task.rank ≤ rank)
+      × (task.rank ≡ rank → task.epoch ≤ epoch + 1))
       (λ task was. (was.0, λ same. let below = was.1 same in omega arith)) tasks turn.past;
 }
 

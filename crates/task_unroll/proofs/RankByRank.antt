@@ -30,7 +30,8 @@ no_names arrays comms = record {
   once = λ name other n is also. absurd (cc);
 }
 
-begun_sound : (prior : List ℕ) (counts : Counts) (tasks : List TaskDef) (rank size : ℕ) → rank < size → counts.cells ≡ sum prior → counts.cells ≤ 16777216 → HasCounts 0 counts tasks [] [] → InTurn rank 0 tasks
+begun_sound : (prior : List ℕ) (counts : Counts) (tasks : List TaskDef) (rank size : ℕ) → rank < size → counts.cells ≡ sum prior → counts.cells ≤ 16777216
+    → HasCounts 0 counts tasks [] [] → InTurn rank 0 tasks
     → IsMain (fresh prior tasks rank size) (begun counts tasks rank size)
 begun_sound prior counts tasks rank size below cells few_cells has turn = record {
   sound = record {
@@ -79,14 +80,16 @@ pub record AreSound (whole : Block) (size rank : ℕ) (r : Ranks) : Type 0 where
   pub before : (p : Program) → Fits whole size prior p → All (IsTask p) old
 
 -- the tasks so far are right
-pub tasks_so_far : (whole : Block) (size rank : ℕ) (r : Ranks) (p : Program) → AreSound whole size rank r → Fits whole size r.lens p → All (IsTask p) r.last.tasks
+pub tasks_so_far : (whole : Block) (size rank : ℕ) (r : Ranks) (p : Program) → AreSound whole size rank r → Fits whole size r.lens p
+    → All (IsTask p) r.last.tasks
 tasks_so_far whole size rank r p are fits =
     let sound = are.main.sound in
     let comm_count = sound.arrays.comm_count in
     let comms = fits.comms in
     let each_len = sound.arrays.each_len in
     let count = fits.count in
-    let laid : p.lens.items ≡ are.prior ++ (r.last.lens ++ fits.after) = fits.laid ∙ ap (λ (zs : List ℕ). zs ++ fits.after) are.laid ∙ append_assoc are.prior r.last.lens fits.after in
+    let laid : p.lens.items ≡ are.prior ++ (r.last.lens ++ fits.after) = fits.laid ∙ ap (λ (zs : List ℕ). zs ++ fits.after) are.laid
+    ∙ append_assoc are.prior r.last.lens fits.after in
     sound.tasks p
     (record {
       ranks = fits.ranks ∙ sym sound.size;
@@ -101,7 +104,8 @@ tasks_so_far whole size rank r p are fits =
 turn_next : (rank epoch : ℕ) (tasks : List TaskDef) → InTurn rank epoch tasks → InTurn (rank + 1) 0 tasks
 turn_next rank epoch tasks turn = record {
   order = turn.order;
-  past = All-weaker (λ (task : TaskDef). (task.rank ≤ rank) × (task.rank ≡ rank → task.epoch ≤ epoch)) (λ (task : TaskDef). (task.rank ≤ rank + 1) × (task.rank ≡ rank + 1 → task.epoch ≤ 0))
+  past = All-weaker (λ (task : TaskDef). (task.rank ≤ rank) × (task.rank ≡ rank → task.epoch ≤ epoch)) (λ (task : TaskDef). (task.rank ≤ rank + 1)
+      × (task.rank ≡ rank + 1 → task.epoch ≤ 0))
       (λ task was. let below = was.0 in (omega (arith, below), λ same. absurd (omega (arith, below, same)))) tasks turn.past;
 }
 
@@ -149,18 +153,26 @@ lens_of whole size rank r are =
     let one : suc rank * arrays_after whole 0 ≡ (rank + 1) * arrays_after whole 0 = ap (λ (n : ℕ). n * arrays_after whole 0) (plus_one rank) in
     omega (arith, laid, parts, each_len, place, product, one)
 
-pub next_sound : (whole : Block) (depth size rank : ℕ) (r : Ranks) → Nested depth place.Top whole → rank + 1 < size → AreSound whole size rank r → Holds (AreSound whole size (rank + 1)) (next_rank whole r)
+pub next_sound : (whole : Block) (depth size rank : ℕ) (r : Ranks) → Nested depth place.Top whole → rank + 1 < size → AreSound whole size rank r
+    → Holds (AreSound whole size (rank + 1)) (next_rank whole r)
 next_sound whole depth size rank r nested below are =
     let main = are.main in
     let sound = main.sound in
     let sum_cells = sound.arrays.sum_cells in
     let laid = ap sum are.laid in
     let parts : sum (are.prior ++ r.last.lens) ≡ sum are.prior + sum r.last.lens = sum_by-append (λ (n : ℕ). n) are.prior r.last.lens in
-    let counts = subst (λ (body : List Op). HasCounts 0 r.last.counts r.last.tasks [] body) main.no_body (subst (λ (accesses : List Access). HasCounts 0 r.last.counts r.last.tasks accesses r.last.body) main.no_accesses sound.counts) in
+    let counts = subst (λ (body : List Op). HasCounts 0 r.last.counts r.last.tasks [] body) main.no_body
+    (subst (λ (accesses : List Access). HasCounts 0 r.last.counts r.last.tasks accesses r.last.body) main.no_accesses sound.counts) in
     let turn = subst (λ (n : ℕ). InTurn n r.last.epoch r.last.tasks) sound.rank sound.turn in
-    let start = begun_sound r.lens r.last.counts r.last.tasks (rank + 1) size below (omega (arith, sum_cells, laid, parts)) sound.arrays.few_cells counts (turn_next rank r.last.epoch r.last.tasks turn) in
+    let start = begun_sound r.lens r.last.counts r.last.tasks (rank + 1) size below (omega (
+      arith,
+      sum_cells,
+      laid,
+      parts,
+    )) sound.arrays.few_cells counts (turn_next rank r.last.epoch r.last.tasks turn) in
     let same : begun r.last.counts r.last.tasks (rank + 1) size ≡ begun r.last.counts r.last.tasks (r.last.rank + 1) r.last.size =
-    ap (λ (n : ℕ). begun r.last.counts r.last.tasks (n + 1) size) (sym sound.rank) ∙ ap (λ (n : ℕ). begun r.last.counts r.last.tasks (r.last.rank + 1) n) (sym sound.size) in
+    ap (λ (n : ℕ). begun r.last.counts r.last.tasks (n + 1) size) (sym sound.rank)
+    ∙ ap (λ (n : ℕ). begun r.last.counts r.last.tasks (r.last.rank + 1) n) (sym sound.size) in
     let begins = begun r.last.counts r.last.tasks (r.last.rank + 1) r.last.size in
     let g = fresh r.lens r.last.tasks (rank + 1) size in
     bind_by (IsMain (stage_after whole g)) (AreSound whole size (rank + 1)) (unrolled whole begins) _
@@ -174,14 +186,17 @@ next_sound whole depth size rank r nested below are =
       before = λ p fits. tasks_so_far whole size rank r p are fits;
     })
 
-pub more_sound : (whole : Block) (depth size rank n : ℕ) (r : Ranks) → Nested depth place.Top whole → rank + n < size → AreSound whole size rank r → Holds (AreSound whole size (rank + n)) (more_ranks whole n r)
+pub more_sound : (whole : Block) (depth size rank n : ℕ) (r : Ranks) → Nested depth place.Top whole → rank + n < size → AreSound whole size rank r
+    → Holds (AreSound whole size (rank + n)) (more_ranks whole n r)
 more_sound whole depth size rank zero r nested below are = subst (λ (k : ℕ). AreSound whole size k r) (plus_none rank) are
   where
     plus_none : (n : ℕ) → n ≡ n + 0
     plus_none n = omega arith
 more_sound whole depth size rank (suc n) r nested below are =
-    bind_by (AreSound whole size (rank + 1)) (AreSound whole size (rank + suc n)) (next_rank whole r) (more_ranks whole n) (next_sound whole depth size rank r nested (omega arith) are) (λ q after.
-    subst (λ (k : ℕ). Holds (AreSound whole size k) (more_ranks whole n q)) (moved rank n) (more_sound whole depth size (rank + 1) n q nested (omega arith) after))
+    bind_by (AreSound whole size (rank + 1)) (AreSound whole size (rank + suc n)) (next_rank whole r) (more_ranks whole n)
+    (next_sound whole depth size rank r nested (omega arith) are) (λ q after.
+    subst (λ (k : ℕ). Holds (AreSound whole size k) (more_ranks whole n q)) (moved rank n)
+    (more_sound whole depth size (rank + 1) n q nested (omega arith) after))
   where
     moved : (rank n : ℕ) → rank + 1 + n ≡ rank + suc n
     moved rank n = omega arith

@@ -27,7 +27,8 @@ bounded_in : (lens : List ℕ) (array : ℕ) (from to : ℤ) → Holds (InLens l
 unfolding bounded
 bounded_in lens array (pos from) (pos to) = by (nat_le from to && nat_le to (slice_index_or lens array 0)) refl
   where
-    by : (b : Bool) → nat_le from to && nat_le to (slice_index_or lens array 0) ≡ b → Holds (InLens lens) (if b then Ok (record { array = array; from = from; to = to }) else Err fault.BadSpan)
+    by : (b : Bool) → nat_le from to && nat_le to (slice_index_or lens array 0) ≡ b
+        → Holds (InLens lens) (if b then Ok (record { array = array; from = from; to = to }) else Err fault.BadSpan)
     by true h =
         let both = both_true (nat_le from to) (nat_le to (slice_index_or lens array 0)) h in
         let low : nat_le from to ≡ true = both.0 in
@@ -52,7 +53,8 @@ within_lens (x ∷ lens) zero some = omega arith
 within_lens (x ∷ lens) (suc array) some = let rest = within_lens lens array some in omega (arith, rest)
 
 -- in every program that continues the rank
-pub span_of_program : (prior : List ℕ) (rank size comms : ℕ) (lens : List ℕ) (p : Program) (span : Span) → Continues prior rank size comms lens p → InLens lens span → IsSpan p rank span
+pub span_of_program : (prior : List ℕ) (rank size comms : ℕ) (lens : List ℕ) (p : Program) (span : Span) → Continues prior rank size comms lens p
+    → InLens lens span → IsSpan p rank span
 span_of_program prior rank size comms lens p span c is =
     let ordered = is.ordered in
     let inside = is.inside in

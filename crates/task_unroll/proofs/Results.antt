@@ -1,13 +1,15 @@
 -- What holds of the value that a chain of results gives, whatever stops it.
 use Rattle.std.proofs.Common.{◌≡◌, ℕ, ◌+◌, ◌≤◌, Bool, true, false, List, [], ◌∷◌, ◌++◌, Result, Ok, Err, refl, sym, ap, ◌∙◌, subst, arith}
-use Rattle.std.specs.Prelude.{⊤, nat_le, if◌then◌else◌}
+use Rattle.std.specs.Prelude.{⊤, nat_le, sum, if◌then◌else◌}
 use Rattle.std.proofs.lemmas.Bool.Decides.{nat_tests}
+use Rattle.std.proofs.lemmas.List.Sums.{sum_by_push}
 use Rattle.rt_base.specs.declared.data.FaultKind.{FaultKind}
 use Rattle.rt_base.specs.declared.data.LimitName.{LimitName}
 use Rattle.task_unroll.specs.declared.refusal.ExpandRefusal.{ExpandRefusal}
 use Rattle.task_unroll.specs.declared.refusal.ExpandRefusal.TheVariants as refusal
 use Rattle.task_unroll.specs.Unrolling.{◌>>=◌, at}
-use Rattle.task_unroll.specs.Counting.{most, kept}
+use Rattle.rt_base.specs.Limits.{most}
+use Rattle.task_unroll.specs.Counting.{kept}
 use Rattle.task_unroll.specs.Checks.{Check, check, passed}
 
 -- the fact holds of the value, if there is one
@@ -58,3 +60,7 @@ passed_front (one ∷ checks) more u is =
     let both = passed_first one (checks ++ more) u is in
     let rest = passed_front checks more u both.1 in
     (ap (λ (b : Bool). if b then Err one.kind else passed checks) both.0 ∙ rest.0, rest.1)
+
+-- one more length
+pub sum_push : (lens : List ℕ) (len : ℕ) → sum (lens ++ len ∷ []) ≡ sum lens + len
+sum_push lens len = sum_by_push (λ (n : ℕ). n) lens len

@@ -76,8 +76,15 @@ AreTasks g rank size comms lens tasks = (p : Program) → Continues g.prior rank
 pub record IsBegun (prior : List ℕ) (rank size comms : ℕ) (lens : List ℕ) (accesses : List Access) (body : List Op) : Type 0 where
   pub regions : (p : Program) → Continues prior rank size comms lens p → All (λ (access : Access). IsSpan p rank access.span) accesses
   pub apart : AllPairs (λ (one other : Access). ¬ Overlaps one.span other.span) accesses
-  pub operations : (p : Program) → Continues prior rank size comms lens p → (task : TaskDef) → task.rank ≡ rank → task.accesses.items ≡ accesses → All (IsOperation p task) body
-  pub follows : (earlier later : List Op) (operation : Op) → body ≡ earlier ++ operation ∷ later → Follows earlier operation
+  pub operations : (p : Program) → Continues prior rank size comms lens p → (task : TaskDef) → task.rank ≡ rank → task.accesses.items ≡ accesses
+      → All (IsOperation p task) body
+  pub follows : (earlier later : List Op) (operation : Op) → body ≡ earlier ++ operation ∷ later → Follows accesses earlier operation
+
+-- in a body without operations none follows others
+pub none_follow : (accesses : List Access) (body : List Op) → body ≡ [] → (earlier later : List Op) (operation : Op) → body ≡ earlier ++ operation ∷ later
+    → Follows accesses earlier operation
+none_follow accesses body none [] later operation is = absurd (cc)
+none_follow accesses body none (o ∷ earlier) later operation is = absurd (cc)
 
 -- the number that a name means is one that there is
 abbrev pub IsFit : ℕ → ℕ → List Op → Meaning → Type 0

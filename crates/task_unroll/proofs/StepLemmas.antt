@@ -59,7 +59,8 @@ task_due : (accesses : List AccessLine) (body : Block) (line : ℕ) (rest : Bloc
 task_due accesses body line rest frames s = task_due_by (accesses_made accesses s) body line rest frames
 
 -- a turn of a `for`, or what stands behind it
-turn_agrees_by : (stmts : List Stmt) (due : Result State ExpandRefusal) (first : ℕ) (x to : ℤ) (name : List ℕ) (body : Block) (last : ℕ) (rest : Block) (frames : List Frame) (behind : ℕ) (w : Spot) (more : Bool)
+turn_agrees_by : (stmts : List Stmt) (due : Result State ExpandRefusal) (first : ℕ) (x to : ℤ) (name : List ℕ) (body : Block) (last : ℕ) (rest : Block)
+    (frames : List Frame) (behind : ℕ) (w : Spot) (more : Bool)
     → int_lt x to ≡ more
     → IsSet stmts first name body (stmt last what.End ∷ (written rest ++ tail frames)) → drop behind stmts ≡ written rest ++ tail frames
     → w.levels ≡ map level_of frames → AreSet stmts frames
@@ -91,12 +92,14 @@ turn_agrees_by stmts due first x to name body last rest frames behind w false h 
       },
     )
 
-turn_agrees : (stmts : List Stmt) (due : Result State ExpandRefusal) (first : ℕ) (x to : ℤ) (name : List ℕ) (body : Block) (last : ℕ) (rest : Block) (frames : List Frame) (behind : ℕ) (w : Spot)
+turn_agrees : (stmts : List Stmt) (due : Result State ExpandRefusal) (first : ℕ) (x to : ℤ) (name : List ℕ) (body : Block) (last : ℕ) (rest : Block)
+    (frames : List Frame) (behind : ℕ) (w : Spot)
     → IsSet stmts first name body (stmt last what.End ∷ (written rest ++ tail frames)) → drop behind stmts ≡ written rest ++ tail frames
     → w.levels ≡ map level_of frames → AreSet stmts frames
     → due ≡ (turns (unrolled body) name x (turns_of (to -ℤ x)) w.state >>= (λ t. unrolled rest t >>= after frames))
     → Agrees stmts (turn name (record { at = first; next = x; to = to }) behind w) due
-turn_agrees stmts due first x to name body last rest frames behind w = turn_agrees_by stmts due first x to name body last rest frames behind w (int_lt x to) refl
+turn_agrees stmts due first x to name body last rest frames behind w =
+    turn_agrees_by stmts due first x to name body last rest frames behind w (int_lt x to) refl
 
 -- a statement that is a line by itself is met as one
 plain_step : (stmts : List Stmt) (line : ℕ) (said : What) (w : Spot) → is_plain said ≡ true → step stmts line said w ≡ line_met line said w
@@ -128,7 +131,8 @@ line_agrees stmts due w frames line said ahead levels set text e =
     lift stmts due (act line said w.state) _ _ _ (λ s d. (ahead, frames, record { text = text; levels = levels; set = set; due_is = d })) e
 
 -- an access line
-access_agrees : (stmts : List Stmt) (due : Result State ExpandRefusal) (w : Spot) (frames : List Frame) (access : AccessLine) (accesses : List AccessLine) (middle : ℕ) (body : Block)
+access_agrees : (stmts : List Stmt) (due : Result State ExpandRefusal) (w : Spot) (frames : List Frame) (access : AccessLine) (accesses : List AccessLine)
+    (middle : ℕ) (body : Block)
     → w.levels ≡ map level_of frames → AreSet stmts frames
     → drop (w.place + 1) stmts ≡ written_ahead (ahead.Lines accesses middle body) ++ tail frames
     → due ≡ (done_ahead (ahead.Lines (access ∷ accesses) middle body) w.state >>= after frames)
@@ -140,7 +144,8 @@ access_agrees stmts due w frames access accesses middle body levels set text e =
     (e ∙ ap (λ c. c >>= after frames) (assoc (access_made access.line access.mode access.span w.state) (accesses_made accesses) (unrolled body)))
 
 -- `for`
-loop_agrees : (stmts : List Stmt) (due : Result State ExpandRefusal) (w : Spot) (frames : List Frame) (line : ℕ) (name : List ℕ) (from to : Term) (body : Block) (last : ℕ) (rest : Block)
+loop_agrees : (stmts : List Stmt) (due : Result State ExpandRefusal) (w : Spot) (frames : List Frame) (line : ℕ) (name : List ℕ) (from to : Term)
+    (body : Block) (last : ℕ) (rest : Block)
     → IsHere stmts w due (ahead.Text (block.Loop line name from to body last rest)) frames
     → Agrees stmts (loop_met (close_of stmts (w.place + 1)) line name from to w) due
 unfolding loop_met
@@ -149,24 +154,36 @@ loop_agrees stmts due w frames line name from to body last rest h =
     let behind = next_at stmts (close_of stmts (w.place + 1)) _ _ (closed_at stmts (w.place + 1) body (stmt last what.End) _ refl text) in
     lift stmts due (bounds line name from to w.state) _ _ _
     (λ b d. turn_agrees stmts due w.place b.1.0 b.1.1 name body last rest frames (close_of stmts (w.place + 1) + 1) (record w { state = b.0 })
-    (record { variable = ap variable_of (head_at stmts w.place _ _ h.text); text = text }) behind h.levels h.set (d ∙ assoc (turns (unrolled body) name b.1.0 (turns_of (b.1.1 -ℤ b.1.0)) b.0) _ _))
+    (record { variable = ap variable_of (head_at stmts w.place _ _ h.text); text = text }) behind h.levels h.set (d
+    ∙ assoc (turns (unrolled body) name b.1.0 (turns_of (b.1.1 -ℤ b.1.0)) b.0) _ _))
     h.due_is
 
 -- `if` without `else`
-when_branch : (stmts : List Stmt) (due : Result State ExpandRefusal) (w : Spot) (s : State) (frames : List Frame) (body : Block) (last : ℕ) (rest : Block) (holds : Bool)
+when_branch : (stmts : List Stmt) (due : Result State ExpandRefusal) (w : Spot) (s : State) (frames : List Frame) (body : Block) (last : ℕ) (rest : Block)
+    (holds : Bool)
     → w.levels ≡ map level_of frames → AreSet stmts frames
     → drop (w.place + 1) stmts ≡ written body ++ (stmt last what.End ∷ (written rest ++ tail frames))
     → drop (close_of stmts (w.place + 1)) stmts ≡ stmt last what.End ∷ (written rest ++ tail frames)
     → due ≡ (((if holds then unrolled body s else Ok s) >>= unrolled rest) >>= after frames)
     → IsAt stmts (branch stmts (close_of stmts (w.place + 1)) holds (record w { state = s })) due
 unfolding branch
-when_branch stmts due w s frames body last rest true levels set text end e =
-    (ahead.Text body, frame.Last last rest ∷ frames, record { text = text; levels = ap (λ more. level.Branch ∷ more) levels; set = set; due_is = e ∙ assoc (unrolled body s) _ _ })
+when_branch stmts due w s frames body last rest true levels set text end e = (
+  ahead.Text body,
+  frame.Last last rest ∷ frames,
+  record {
+    text = text;
+    levels = ap (λ more. level.Branch ∷ more) levels;
+    set = set;
+    due_is = e
+        ∙ assoc (unrolled body s) _ _;
+  },
+)
 when_branch stmts due w s frames body last rest false levels set text end e =
     rw (ap parts (head_at stmts (close_of stmts (w.place + 1)) _ _ end))
     (ahead.Text rest, frames, record { text = next_at stmts (close_of stmts (w.place + 1)) _ _ end; levels = levels; set = set; due_is = e })
 
-when_agrees : (stmts : List Stmt) (due : Result State ExpandRefusal) (w : Spot) (frames : List Frame) (line : ℕ) (test : Term) (body : Block) (last : ℕ) (rest : Block)
+when_agrees : (stmts : List Stmt) (due : Result State ExpandRefusal) (w : Spot) (frames : List Frame) (line : ℕ) (test : Term) (body : Block) (last : ℕ)
+    (rest : Block)
     → IsHere stmts w due (ahead.Text (block.When line test body last rest)) frames
     → Agrees stmts (test_met stmts line test (close_of stmts (w.place + 1)) w) due
 unfolding test_met
@@ -178,7 +195,8 @@ when_agrees stmts due w frames line test body last rest h =
     h.due_is
 
 -- `if` with `else`
-choice_branch : (stmts : List Stmt) (due : Result State ExpandRefusal) (w : Spot) (s : State) (frames : List Frame) (body : Block) (middle : ℕ) (other : Block) (last : ℕ) (rest : Block) (holds : Bool)
+choice_branch : (stmts : List Stmt) (due : Result State ExpandRefusal) (w : Spot) (s : State) (frames : List Frame) (body : Block) (middle : ℕ)
+    (other : Block) (last : ℕ) (rest : Block) (holds : Bool)
     → w.levels ≡ map level_of frames → AreSet stmts frames
     → drop (w.place + 1) stmts ≡ written body ++ (stmt middle what.Else ∷ (written other ++ (stmt last what.End ∷ (written rest ++ tail frames))))
     → drop (close_of stmts (w.place + 1)) stmts ≡ stmt middle what.Else ∷ (written other ++ (stmt last what.End ∷ (written rest ++ tail frames)))
@@ -207,7 +225,8 @@ choice_branch stmts due w s frames body middle other last rest false levels set 
       },
     )
 
-choice_agrees : (stmts : List Stmt) (due : Result State ExpandRefusal) (w : Spot) (frames : List Frame) (line : ℕ) (test : Term) (body : Block) (middle : ℕ) (other : Block) (last : ℕ) (rest : Block)
+choice_agrees : (stmts : List Stmt) (due : Result State ExpandRefusal) (w : Spot) (frames : List Frame) (line : ℕ) (test : Term) (body : Block) (middle : ℕ)
+    (other : Block) (last : ℕ) (rest : Block)
     → IsHere stmts w due (ahead.Text (block.Choice line test body middle other last rest)) frames
     → Agrees stmts (test_met stmts line test (close_of stmts (w.place + 1)) w) due
 unfolding test_met
@@ -239,13 +258,17 @@ else_agrees stmts due w frames middle other last rest h =
     )
 
 -- `end` of a turn
-turn_end_agrees : (stmts : List Stmt) (due : Result State ExpandRefusal) (w : Spot) (frames : List Frame) (first : ℕ) (name : List ℕ) (x to : ℤ) (body : Block) (last : ℕ) (rest : Block)
+turn_end_agrees : (stmts : List Stmt) (due : Result State ExpandRefusal) (w : Spot) (frames : List Frame) (first : ℕ) (name : List ℕ) (x to : ℤ)
+    (body : Block) (last : ℕ) (rest : Block)
     → IsHere stmts w due (ahead.Text block.Done) (frame.Turning first name x to body last rest ∷ frames)
     → Agrees stmts (block_ended stmts w) due
 unfolding block_ended turn_ended
 turn_end_agrees stmts due w frames first name x to body last rest h =
     rw (h.levels, h.set.0.variable)
-    (turn_agrees stmts due first x to name body last rest frames (w.place + 1) (record w { levels = map level_of frames }) h.set.0 (next_at stmts w.place _ _ h.text) refl h.set.1 h.due_is)
+    (turn_agrees stmts due first x to name body last rest frames (w.place + 1) (record w {
+      levels =
+          map level_of frames;
+    }) h.set.0 (next_at stmts w.place _ _ h.text) refl h.set.1 h.due_is)
 
 -- `end` of a branch
 branch_end_agrees : (stmts : List Stmt) (due : Result State ExpandRefusal) (w : Spot) (frames : List Frame) (last : ℕ) (rest : Block)
@@ -262,11 +285,22 @@ task_end_agrees : (stmts : List Stmt) (due : Result State ExpandRefusal) (w : Sp
 unfolding block_ended
 task_end_agrees stmts due w frames line last rest h =
     rw h.levels (lift stmts due (task_ended line w.state) _ _ Ok
-    (λ s d. (ahead.Text rest, frames, record { text = next_at stmts w.place _ _ h.text; levels = refl; set = h.set; due_is = d ∙ ok_last (unrolled rest s >>= after frames) }))
+    (λ s d. (
+      ahead.Text rest,
+      frames,
+      record {
+        text = next_at stmts w.place _ _ h.text;
+        levels = refl;
+        set = h.set;
+        due_is = d
+            ∙ ok_last (unrolled rest s >>= after frames);
+      },
+    ))
     (h.due_is ∙ sym (ok_last _)))
 
 -- `task`
-task_agrees : (stmts : List Stmt) (due : Result State ExpandRefusal) (w : Spot) (frames : List Frame) (line : ℕ) (accesses : List AccessLine) (middle : ℕ) (body : Block) (last : ℕ) (rest : Block)
+task_agrees : (stmts : List Stmt) (due : Result State ExpandRefusal) (w : Spot) (frames : List Frame) (line : ℕ) (accesses : List AccessLine) (middle : ℕ)
+    (body : Block) (last : ℕ) (rest : Block)
     → IsHere stmts w due (ahead.Text (block.Work line accesses middle body last rest)) frames
     → Agrees stmts (task_met line w) due
 unfolding task_met
@@ -290,7 +324,8 @@ task_agrees stmts due w frames line accesses middle body last rest h =
 
 -- the statement at hand is the one that the blocks write
 stands : (stmts : List Stmt) (due : Result State ExpandRefusal) (w : Spot) (s x : Stmt) (rest : List Stmt)
-    → slice_get stmts w.place ≡ Some s → drop w.place stmts ≡ x ∷ rest → Agrees stmts (step stmts x.line x.what w) due → Agrees stmts (step stmts s.line s.what w) due
+    → slice_get stmts w.place ≡ Some s → drop w.place stmts ≡ x ∷ rest → Agrees stmts (step stmts x.line x.what w) due
+    → Agrees stmts (step stmts s.line s.what w) due
 stands stmts due w s x rest here text h =
     let written_here = head_at stmts w.place x rest text in
     let same : x ≡ s = cc in
@@ -320,9 +355,11 @@ step_agrees_by stmts due w s (ahead.Text (block.Choice line test body middle oth
 step_agrees_by stmts due w s (ahead.Text (block.Work line accesses middle body last rest)) frames here h =
     stands stmts due w s _ _ here h.text (task_agrees stmts due w frames line accesses middle body last rest h)
 step_agrees_by stmts due w s (ahead.Lines [] middle body) frames here h =
-    stands stmts due w s _ _ here h.text (line_agrees stmts due w frames middle what.Do (ahead.Text body) h.levels h.set (next_at stmts w.place _ _ h.text) h.due_is)
+    stands stmts due w s _ _ here h.text (line_agrees stmts due w frames middle what.Do (ahead.Text body) h.levels h.set (next_at stmts w.place _ _ h.text)
+    h.due_is)
 step_agrees_by stmts due w s (ahead.Lines (access ∷ accesses) middle body) frames here h =
-    stands stmts due w s _ _ here h.text (access_agrees stmts due w frames access accesses middle body h.levels h.set (next_at stmts w.place _ _ h.text) h.due_is)
+    stands stmts due w s _ _ here h.text (access_agrees stmts due w frames access accesses middle body h.levels h.set (next_at stmts w.place _ _ h.text)
+    h.due_is)
 
 -- one step from where the walk stands
 pub step_agrees : (stmts : List Stmt) (due : Result State ExpandRefusal) (w : Spot) (s : Stmt)
@@ -331,7 +368,11 @@ step_agrees stmts due w s here h = step_agrees_by stmts due w s h.0 h.1 here h.2
 
 -- at first
 pub starts : (stmts : List Stmt) (whole : Block) (s : State) → written whole ≡ stmts → IsAt stmts (spot s 0 []) (unrolled whole s)
-starts stmts whole s e = (ahead.Text whole, [], record { text = sym e ∙ sym (append-nil (written whole)); levels = refl; set = tt; due_is = sym (ok_last (unrolled whole s)) })
+starts stmts whole s e = (
+  ahead.Text whole,
+  [],
+  record { text = sym e ∙ sym (append-nil (written whole)); levels = refl; set = tt; due_is = sym (ok_last (unrolled whole s)) },
+)
 
 -- at last: no block is open any more, and nothing is left to do
 ends_by : (stmts : List Stmt) (due : Result State ExpandRefusal) (w : Spot) (ahead : Ahead) (frames : List Frame)

@@ -16,19 +16,27 @@ use Rattle.task_unroll.proofs.Making.{array_made_sound, comm_made_sound}
 use Rattle.task_unroll.proofs.Inside.{steady_main, loop_keeps, choice_keeps, work_keeps}
 
 main_of : (g : Stage) (s t : State) → IsMain g s → Kept g s t → IsMain g t
-main_of g s t main kept = record { sound = kept.sound; no_accesses = kept.accesses ∙ main.no_accesses; no_body = kept.body ∙ main.no_body; closed = main.closed }
+main_of g s t main kept = record {
+  sound = kept.sound;
+  no_accesses = kept.accesses ∙ main.no_accesses;
+  no_body = kept.body
+      ∙ main.no_body;
+  closed = main.closed;
+}
 
 -- a statement in a `for` or an `if`, outside every task
 act_main : (g : Stage) (line : ℕ) (said : What) (s : State) → stands place.Main said ≡ true → IsMain g s → Holds (IsMain g) (act line said s)
 act_main g line (what.Array name len) s may main = absurd (cc)
 act_main g line (what.Show name) s may main = absurd (cc)
 act_main g line (what.Comm name) s may main = absurd (cc)
-act_main g line (what.Let name e) s may main = holds_weaker (Kept g s) (IsMain g) (variable_set line name e s) (λ t kept. main_of g s t main kept) (variable_set_sound g line name e s main.sound)
+act_main g line (what.Let name e) s may main =
+    holds_weaker (Kept g s) (IsMain g) (variable_set line name e s) (λ t kept. main_of g s t main kept) (variable_set_sound g line name e s main.sound)
 act_main g line (what.For name from to) s may main = main
 act_main g line (what.If test) s may main = main
 act_main g line what.Else s may main = main
 act_main g line what.End s may main = main
-act_main g line what.Taskwait s may main = holds_weaker (Kept g s) (IsMain g) (taskwait_met s) (λ t kept. main_of g s t main kept) (taskwait_met_sound g s main.sound)
+act_main g line what.Taskwait s may main =
+    holds_weaker (Kept g s) (IsMain g) (taskwait_met s) (λ t kept. main_of g s t main kept) (taskwait_met_sound g s main.sound)
 act_main g line what.Task s may main = main
 act_main g line (what.Touch mode span) s may main = main
 act_main g line what.Do s may main = main
@@ -52,7 +60,8 @@ main_keeps g (block.When line test body last rest) (suc k) s nested main =
 main_keeps g (block.Choice line test body middle other last rest) zero s nested main = absurd nested
 main_keeps g (block.Choice line test body middle other last rest) (suc k) s nested main =
     choice_keeps (IsMain g) (IsMain g) (steady_main g) line test (unrolled body) (unrolled other) (unrolled rest)
-    (λ t before. main_keeps g body k t nested.0 before) (λ t before. main_keeps g other k t nested.1 before) (λ t after. main_keeps g rest (suc k) t nested.2 after) s main
+    (λ t before. main_keeps g body k t nested.0 before) (λ t before. main_keeps g other k t nested.1 before)
+    (λ t after. main_keeps g rest (suc k) t nested.2 after) s main
 main_keeps g (block.Work line accesses middle body last rest) zero s nested main = absurd nested
 main_keeps g (block.Work line accesses middle body last rest) (suc k) s nested main =
     work_keeps g (IsMain g) line accesses body k last (unrolled rest) nested.1 (λ t after. main_keeps g rest (suc k) t nested.2 after) s main
@@ -118,7 +127,8 @@ stage_after b g = record g { arrays = arrays_after b g.arrays; comms = comms_aft
 -- a statement outside every block
 act_top : (g : Stage) (line : ℕ) (said : What) (s : State) → stands place.Top said ≡ true → IsMain g s → Holds (IsMain (stage_with said g)) (act line said s)
 act_top g line (what.Array name len) s may main = array_made_sound g line name len s main
-act_top g line (what.Show name) s may main = holds_weaker (Kept g s) (IsMain g) (shown line name s) (λ t kept. main_of g s t main kept) (shown_sound g line name s main.sound)
+act_top g line (what.Show name) s may main =
+    holds_weaker (Kept g s) (IsMain g) (shown line name s) (λ t kept. main_of g s t main kept) (shown_sound g line name s main.sound)
 act_top g line (what.Comm name) s may main = comm_made_sound g line name s main
 act_top g line (what.Let name e) s may main = act_main g line (what.Let name e) s refl main
 act_top g line (what.For name from to) s may main = main
@@ -150,7 +160,8 @@ top_keeps g (block.When line test body last rest) (suc k) s nested main =
 top_keeps g (block.Choice line test body middle other last rest) zero s nested main = absurd nested
 top_keeps g (block.Choice line test body middle other last rest) (suc k) s nested main =
     choice_keeps (IsMain g) (IsMain (stage_after rest g)) (steady_main g) line test (unrolled body) (unrolled other) (unrolled rest)
-    (λ t before. main_keeps g body k t nested.0 before) (λ t before. main_keeps g other k t nested.1 before) (λ t after. top_keeps g rest (suc k) t nested.2 after) s main
+    (λ t before. main_keeps g body k t nested.0 before) (λ t before. main_keeps g other k t nested.1 before)
+    (λ t after. top_keeps g rest (suc k) t nested.2 after) s main
 top_keeps g (block.Work line accesses middle body last rest) zero s nested main = absurd nested
 top_keeps g (block.Work line accesses middle body last rest) (suc k) s nested main =
     work_keeps g (IsMain (stage_after rest g)) line accesses body k last (unrolled rest) nested.1 (λ t after. top_keeps g rest (suc k) t nested.2 after) s main

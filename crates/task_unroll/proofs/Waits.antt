@@ -50,13 +50,15 @@ as_many names [] (h ∷ hs) means = absurd means
 as_many names (w ∷ ws) [] means = absurd means
 as_many names (w ∷ ws) (h ∷ hs) means = ap suc (as_many names ws hs means.1)
 
-open_one : (arrays comms : ℕ) (names : Names) (body : List Op) (w : List ℕ) (h : Handle) → AllMean (IsFit arrays comms body) names → as_handle (meaning_of names w) ≡ Ok h → IsOpen body h
+open_one : (arrays comms : ℕ) (names : Names) (body : List Op) (w : List ℕ) (h : Handle) → AllMean (IsFit arrays comms body) names
+    → as_handle (meaning_of names w) ≡ Ok h → IsOpen body h
 open_one arrays comms names body w h fit is = elim (handle_is (meaning_of names w) h is) [
   | inl null ↦ subst (IsOpen body) (sym null) tt
   | inr nth ↦ subst (IsOpen body) (sym nth.1) (fit w (meaning.Posted nth.0) nth.2)
 ]
 
-pub all_open : (arrays comms : ℕ) (names : Names) (body : List Op) (ws : List (List ℕ)) (hs : List Handle) → AllMean (IsFit arrays comms body) names → Mean names ws hs → All (IsOpen body) hs
+pub all_open : (arrays comms : ℕ) (names : Names) (body : List Op) (ws : List (List ℕ)) (hs : List Handle) → AllMean (IsFit arrays comms body) names
+    → Mean names ws hs → All (IsOpen body) hs
 all_open arrays comms names body [] [] fit means = All-nil (IsOpen body)
 all_open arrays comms names body [] (h ∷ hs) fit means = absurd means
 all_open arrays comms names body (w ∷ ws) [] fit means = absurd means
@@ -70,13 +72,15 @@ all_pairs_cons R x xs first rest (suc i) zero d low high = absurd (omega arith)
 all_pairs_cons R x xs first rest (suc i) (suc j) d low high = rest i j d (omega arith) (omega arith)
 
 -- two names that differ mean no one request
-differ : (names : Names) (w v : List ℕ) (n m : ℕ) → NamedOnce names → bytes_eq w v ≡ false → meaning_of names w ≡ Some (meaning.Posted n) → meaning_of names v ≡ Some (meaning.Posted m) → n ≢ m
+differ : (names : Names) (w v : List ℕ) (n m : ℕ) → NamedOnce names → bytes_eq w v ≡ false → meaning_of names w ≡ Some (meaning.Posted n)
+    → meaning_of names v ≡ Some (meaning.Posted m) → n ≢ m
 differ names w v n m once apart is also same =
     let one = once w v n is (also ∙ ap (λ (k : ℕ). Some (meaning.Posted k)) (sym same)) in
     let equal = subst (λ (u : List ℕ). bytes_eq w u ≡ true) one (bytes_same w) in
     absurd (cc)
 
-other_handle : (names : Names) (w v : List ℕ) (h k : Handle) → NamedOnce names → bytes_eq w v ≡ false → as_handle (meaning_of names w) ≡ Ok h → as_handle (meaning_of names v) ≡ Ok k → NamesOther h k
+other_handle : (names : Names) (w v : List ℕ) (h k : Handle) → NamedOnce names → bytes_eq w v ≡ false → as_handle (meaning_of names w) ≡ Ok h
+    → as_handle (meaning_of names v) ≡ Ok k → NamesOther h k
 other_handle names w v handle.Null k once apart is also = tt
 other_handle names w v (handle.Nth n) handle.Null once apart is also = tt
 other_handle names w v (handle.Nth n) (handle.Nth m) once apart is also = elim (handle_is (meaning_of names w) (handle.Nth n) is) [
@@ -90,7 +94,8 @@ other_handle names w v (handle.Nth n) (handle.Nth m) once apart is also = elim (
   ]
 ]
 
-others : (names : Names) (w : List ℕ) (h : Handle) (vs : List (List ℕ)) (ks : List Handle) → NamedOnce names → list_any (bytes_eq w) vs ≡ false → as_handle (meaning_of names w) ≡ Ok h → Mean names vs ks
+others : (names : Names) (w : List ℕ) (h : Handle) (vs : List (List ℕ)) (ks : List Handle) → NamedOnce names → list_any (bytes_eq w) vs ≡ false
+    → as_handle (meaning_of names w) ≡ Ok h → Mean names vs ks
     → All (NamesOther h) ks
 others names w h [] [] once apart is means = All-nil (NamesOther h)
 others names w h [] (k ∷ ks) once apart is means = absurd means
@@ -121,7 +126,8 @@ idle_or_old (w ∷ ws) names v m is = elim (idle_or_old ws (with_meaning names w
 ]
 
 -- a request whose name the wait doesn't name
-not_named : (names : Names) (v : List ℕ) (n : ℕ) (ws : List (List ℕ)) (hs : List Handle) → NamedOnce names → meaning_of names v ≡ Some (meaning.Posted n) → list_any (bytes_eq v) ws ≡ false → Mean names ws hs
+not_named : (names : Names) (v : List ℕ) (n : ℕ) (ws : List (List ℕ)) (hs : List Handle) → NamedOnce names → meaning_of names v ≡ Some (meaning.Posted n)
+    → list_any (bytes_eq v) ws ≡ false → Mean names ws hs
     → list_any (is_nth n) hs ≡ false
 not_named names v n [] [] once is apart means = refl
 not_named names v n [] (h ∷ hs) once is apart means = absurd means
@@ -138,7 +144,8 @@ not_named names v n (w ∷ ws) (h ∷ hs) once is apart means =
     other k apart = grind (arith, nat_tests)
 
 idle_fit : (arrays comms : ℕ) (body after : List Op) (ws : List (List ℕ)) (names : Names) (v : List ℕ) (m : Meaning)
-    → ((n : ℕ) → meaning_of names v ≡ Some (meaning.Posted n) → list_any (bytes_eq v) ws ≡ false → Contains (left_after 0 body) n → Contains (left_after 0 after) n)
+    → ((n : ℕ) → meaning_of names v ≡ Some (meaning.Posted n) → list_any (bytes_eq v) ws ≡ false → Contains (left_after 0 body) n
+    → Contains (left_after 0 after) n)
     → list_any (bytes_eq v) ws ≡ false → meaning_of names v ≡ Some m → IsFit arrays comms body m → IsFit arrays comms after m
 idle_fit arrays comms body after ws names v (meaning.Variable value) turns apart is fit = tt
 idle_fit arrays comms body after ws names v (meaning.Array number) turns apart is fit = fit
@@ -147,7 +154,8 @@ idle_fit arrays comms body after ws names v (meaning.Posted n) turns apart is fi
 idle_fit arrays comms body after ws names v meaning.Idle turns apart is fit = tt
 
 -- the names after a wait
-pub names_idle : (arrays comms : ℕ) (names : Names) (body : List Op) (ws : List (List ℕ)) (hs : List Handle) (wait : Op) → ((n : ℕ) → list_any (is_nth n) hs ≡ false → names_request n wait ≡ false)
+pub names_idle : (arrays comms : ℕ) (names : Names) (body : List Op) (ws : List (List ℕ)) (hs : List Handle) (wait : Op)
+    → ((n : ℕ) → list_any (is_nth n) hs ≡ false → names_request n wait ≡ false)
     → Mean names ws hs → HasNames arrays comms names body → HasNames arrays comms (with_idle ws names) (body ++ wait ∷ [])
 names_idle arrays comms names body ws hs wait free means has = record {
   fit = λ v m is. elim (idle_or_old ws names v m is) [

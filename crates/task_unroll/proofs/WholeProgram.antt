@@ -19,7 +19,8 @@ use Rattle.task_unroll.proofs.Sound.{HasCounts}
 use Rattle.task_unroll.proofs.Unrolled.{arrays_after}
 use Rattle.task_unroll.proofs.RankByRank.{AreSound, tasks_so_far, first_sound, more_sound}
 
-well_formed : (whole : Block) (more eager : ℕ) (r : Ranks) → suc more ≤ 64 → eager ≤ 16777216 → pieces r.last.tasks ≤ 16777216 → AreSound whole (suc more) more r → WellFormed (program_of eager r)
+well_formed : (whole : Block) (more eager : ℕ) (r : Ranks) → suc more ≤ 64 → eager ≤ 16777216 → pieces r.last.tasks ≤ 16777216
+    → AreSound whole (suc more) more r → WellFormed (program_of eager r)
 well_formed whole more eager r few small few_pieces are =
     let main = are.main in
     let sound = main.sound in
@@ -40,7 +41,8 @@ well_formed whole more eager r few small few_pieces are =
     let few_cells = arrays.few_cells in
     let sum_laid = ap sum are.laid in
     let sum_parts : sum (are.prior ++ r.last.lens) ≡ sum are.prior + sum r.last.lens = sum_by-append (λ (n : ℕ). n) are.prior r.last.lens in
-    let counts = subst (λ (body : List Op). HasCounts 0 r.last.counts r.last.tasks [] body) main.no_body (subst (λ (accesses : List Access). HasCounts 0 r.last.counts r.last.tasks accesses r.last.body) main.no_accesses sound.counts) in
+    let counts = subst (λ (body : List Op). HasCounts 0 r.last.counts r.last.tasks [] body) main.no_body
+    (subst (λ (accesses : List Access). HasCounts 0 r.last.counts r.last.tasks accesses r.last.body) main.no_accesses sound.counts) in
     record {
       some_rank = omega (arith, size);
       ranks = omega (arith, size);
@@ -49,6 +51,7 @@ well_formed whole more eager r few small few_pieces are =
       few_comms = omega (arith, comm_count, few_comms);
       arrays = omega (arith, count, few_arrays);
       lens = lens_len ∙ ap (λ (n : ℕ). n * arrays_after whole 0) (sym size) ∙ ap (λ (n : ℕ). r.last.size * n) (sym count);
+      starts = refl;
       cells = omega (arith, sum_cells, few_cells, sum_laid, sum_parts);
       shows = subst (λ (n : ℕ). All (λ (array : ℕ). array < n) r.last.shows) (sym count) arrays.shown;
       shown_once = arrays.once;
@@ -61,10 +64,18 @@ well_formed whole more eager r few small few_pieces are =
       message_cells = let n = counts.message_cells in let few = counts.few_message_cells in omega (arith, n, few);
       few_pieces = few_pieces;
       order = sound.turn.order;
-      tasks = tasks_so_far whole (suc more) more r (program_of eager r) are (record { ranks = size; comms = comm_count; count = count; after = []; laid = sym (append-nil r.lens) });
+      tasks = tasks_so_far whole (suc more) more r (program_of eager r) are (record {
+        ranks = size;
+        comms = comm_count;
+        count = count;
+        after = [];
+        laid =
+            sym (append-nil r.lens);
+      });
     }
 
-program_sound : (whole : Block) (depth more eager : ℕ) → Nested depth place.Top whole → suc more ≤ 64 → eager ≤ 16777216 → Holds WellFormed (program whole more eager)
+program_sound : (whole : Block) (depth more eager : ℕ) → Nested depth place.Top whole → suc more ≤ 64 → eager ≤ 16777216
+    → Holds WellFormed (program whole more eager)
 unfolding program
 program_sound whole depth more eager nested few small =
     bind_by (AreSound whole (suc more) 0) WellFormed (first_rank whole (suc more)) _ (first_sound whole depth (suc more) nested (omega arith)) (λ first begun.
@@ -75,10 +86,13 @@ program_sound whole depth more eager nested few small =
     from_none : (n : ℕ) → 0 + n ≡ n
     from_none n = omega arith
 
-    all_ranks : (whole : Block) (depth more : ℕ) (first : Ranks) → Nested depth place.Top whole → AreSound whole (suc more) 0 first → Holds (AreSound whole (suc more) more) (more_ranks whole more first)
+    all_ranks : (whole : Block) (depth more : ℕ) (first : Ranks) → Nested depth place.Top whole → AreSound whole (suc more) 0 first
+        → Holds (AreSound whole (suc more) more) (more_ranks whole more first)
     all_ranks whole depth more first nested begun =
-        subst (λ (k : ℕ). Holds (AreSound whole (suc more) k) (more_ranks whole more first)) (from_none more) (more_sound whole depth (suc more) 0 more first nested (omega arith) begun)
+        subst (λ (k : ℕ). Holds (AreSound whole (suc more) k) (more_ranks whole more first)) (from_none more)
+        (more_sound whole depth (suc more) 0 more first nested (omega arith) begun)
 
 -- every program that unrolling gives
 pub all_well_formed : UnrolledIsWellFormed
-all_well_formed whole depth more eager result nested few small is = holds_of WellFormed (program whole more eager) result (program_sound whole depth more eager nested few small) is
+all_well_formed whole depth more eager result nested few small is =
+    holds_of WellFormed (program whole more eager) result (program_sound whole depth more eager nested few small) is

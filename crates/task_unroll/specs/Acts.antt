@@ -8,9 +8,8 @@ use Rattle.rt_base.specs.declared.data.LimitName.TheVariants as limit
 use Rattle.rt_base.specs.declared.data.Span.{Span}
 use Rattle.rt_base.specs.declared.data.Mode.{Mode}
 use Rattle.rt_base.specs.declared.data.How.{How}
-use Rattle.rt_base.specs.declared.data.How.TheVariants as how
 use Rattle.rt_base.specs.declared.data.Kernel.{Kernel}
-use Rattle.rt_base.specs.declared.data.Kernel.TheVariants as kernel
+use Rattle.rt_base.specs.KernelForms.{source_count, number_count}
 use Rattle.rt_base.specs.declared.data.Op.{Op}
 use Rattle.rt_base.specs.declared.data.Op.TheVariants as op
 use Rattle.rt_base.specs.declared.data.TaskDef.{TaskDef}
@@ -66,7 +65,7 @@ shown line name s = do
   once ← at line (passed (check fault.NameTaken (list_any (nat_eq array) t.shows) ∷ []))
   Ok (record t { shows = t.shows ++ array ∷ [] })
 
--- comm NAME: the next communicator (MPI 4.0, 6.2)
+-- comm NAME: the next communicator (MPI 4.0, 7.2)
 unfoldable pub comm_made : ℕ → List ℕ → State → Result State ExpandRefusal
 comm_made line name s = do
   t ← stepped s
@@ -117,33 +116,6 @@ op_done line handles operation t = do
   fine ← at line (passed (op_checks t.accesses t.body handles operation))
   cells ← kept limit.MessageCells (t.counts.message_cells + cells_sent operation)
   Ok (record t { counts = record t.counts { message_cells = cells }; body = t.body ++ operation ∷ [] })
-
--- how many sources and how many numbers a kernel takes
-abbrev pub source_count : Kernel → ℕ
-source_count kernel.Fill = 0
-source_count kernel.Ramp = 0
-source_count kernel.Copy = 1
-source_count kernel.Add = 2
-source_count kernel.Sub = 2
-source_count kernel.Scale = 1
-source_count kernel.Shift = 1
-source_count kernel.Jacobi2 = 1
-source_count kernel.Sum = 1
-source_count kernel.Least = 1
-source_count kernel.Greatest = 1
-
-abbrev pub number_count : Kernel → ℕ
-number_count kernel.Fill = 1
-number_count kernel.Ramp = 2
-number_count kernel.Copy = 0
-number_count kernel.Add = 0
-number_count kernel.Sub = 0
-number_count kernel.Scale = 1
-number_count kernel.Shift = 1
-number_count kernel.Jacobi2 = 0
-number_count kernel.Sum = 0
-number_count kernel.Least = 0
-number_count kernel.Greatest = 0
 
 -- the destination stands first, then the sources, and then the numbers. What a kernel doesn't have is None or 0
 abbrev pub kernel_call : Kernel → List Span → List ℤ → Result Op FaultKind

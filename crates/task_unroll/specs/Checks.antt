@@ -9,8 +9,8 @@ use Rattle.rt_base.specs.declared.data.Access.{Access}
 use Rattle.rt_base.specs.declared.data.Kernel.{Kernel}
 use Rattle.rt_base.specs.declared.data.Kernel.TheVariants as kernel
 use Rattle.rt_base.specs.declared.data.Op.{Op}
-use Rattle.rt_base.specs.declared.data.Op.TheVariants as op
 use Rattle.rt_base.specs.Spans.{span_len}
+use Rattle.rt_base.specs.Operations.{KernelParts, kernel_parts, given, by_parts}
 use Rattle.rt_base.specs.Touched.{reads, writes, shares_any, is_declared, is_writable}
 use Rattle.rt_base.specs.InUse.{is_in_use}
 use Rattle.task_names.specs.declared.meaning.Meaning.{Meaning}
@@ -88,20 +88,25 @@ has_no_source kernel.Sum left = false
 has_no_source kernel.Least left = is_nothing left
 has_no_source kernel.Greatest left = is_nothing left
 
--- four cells a status
+-- what a kernel asks of its operands
+abbrev pub kernel_checks : KernelParts → List Check
+kernel_checks done =
+    check fault.LengthMismatch (has_wrong_length done.kernel done.dst done.left done.right) ∷ check fault.BadShift (has_bad_shift done.kernel done.value)
+    ∷ check fault.EmptySource (has_no_source done.kernel done.left) ∷ []
+
+-- the form of an operation: what its kernel asks, and four cells a status
 abbrev pub form_checks : Op → List Check
-form_checks (op.Compute kind dst left right value step) =
-    check fault.LengthMismatch (has_wrong_length kind dst left right) ∷ check fault.BadShift (has_bad_shift kind value)
-    ∷ check fault.EmptySource (has_no_source kind left) ∷ []
-form_checks (op.Post how span whom tag comm status) = check fault.StatusLength (differs 4 status) ∷ []
-form_checks (op.Await later handles status) = check fault.StatusLength (differs (4 * length handles.items) status) ∷ []
+form_checks operation =
+    given [] kernel_checks (kernel_parts operation)
+    ++ by_parts [] (λ posted. check fault.StatusLength (differs 4 posted.status) ∷ [])
+    (λ waited. check fault.StatusLength (differs (4 * length waited.handles) waited.status) ∷ []) operation
 
 -- the tests of an operation behind others of its body. One test is of the statement's handles
 abbrev pub op_checks : List Access → List Op → Check → Op → List Check
 op_checks accesses earlier handles operation =
-    check fault.NotDeclared (not (list_all (is_declared accesses) (writes operation ++ reads operation)))
-    ∷ check fault.NotWritable (not (list_all (is_writable accesses) (writes operation)))
-    ∷ (form_checks operation ++ handles ∷ check fault.InUse (is_in_use earlier operation) ∷ [])
+    check fault.NotDeclared (not (list_all (is_declared accesses) (writes accesses operation ++ reads accesses operation)))
+    ∷ check fault.NotWritable (not (list_all (is_writable accesses) (writes accesses operation)))
+    ∷ (form_checks operation ++ handles ∷ check fault.InUse (is_in_use accesses earlier operation) ∷ [])
 
 -- no handle
 abbrev pub no_handle : Check

@@ -2,25 +2,11 @@
 use Rattle.std.specs.Prelude.{ℕ, ◌+◌, nat_le, length, Result, Ok, Err, ⊤, if◌then◌else◌}
 use Rattle.rt_base.specs.declared.data.LimitName.{LimitName}
 use Rattle.rt_base.specs.declared.data.LimitName.TheVariants as limit
+use Rattle.rt_base.specs.Limits.{most}
 use Rattle.task_unroll.specs.declared.refusal.ExpandRefusal.{ExpandRefusal}
 use Rattle.task_unroll.specs.declared.refusal.ExpandRefusal.TheVariants as refusal
 use Rattle.task_unroll.specs.Unrolling.{◌>>=◌}
 use Rattle.task_unroll.specs.States.{Counts, State}
-
--- the greatest count
-abbrev pub most : LimitName → ℕ
-most limit.Arrays = 1024
-most limit.Comms = 256
-most limit.Cells = 16777216
-most limit.Tasks = 65536
-most limit.Accesses = 4194304
-most limit.AccessCells = 134217728
-most limit.Operations = 1048576
-most limit.Requests = 262144
-most limit.Names = 1048576
-most limit.MessageCells = 67108864
-most limit.Steps = 16777216
-most limit.Pieces = 16777216
 
 -- the count, where it keeps the limit
 unfoldable pub kept : LimitName → ℕ → Result ℕ ExpandRefusal

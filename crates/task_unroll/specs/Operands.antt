@@ -49,7 +49,7 @@ abbrev pub span_or_none : State → Option SpanText → Result (Option Span) Fau
 span_or_none s None = Ok None
 span_or_none s (Some text) = span_of s text >>= λ span. Ok (Some span)
 
--- the communicator behind `on`, and world where there is none (MPI 4.0, 6.2)
+-- the communicator behind `on`, and world where there is none (MPI 4.0, 7.2)
 abbrev pub communicator_of : State → Option (List ℕ) → Result ℕ FaultKind
 communicator_of s None = Ok 0
 communicator_of s (Some name) = as_communicator (meaning_of s.names name)

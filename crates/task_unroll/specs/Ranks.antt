@@ -3,6 +3,7 @@ use Rattle.std.specs.Prelude.{ℕ, zero, suc, ◌+◌, List, [], ◌++◌, Resul
 use Rattle.rt_base.specs.declared.data.Program.{Program}
 use Rattle.rt_base.specs.declared.data.LimitName.TheVariants as limit
 use Rattle.rt_base.specs.Pieces.{pieces}
+use Rattle.rt_base.specs.Layout.{starts_from}
 use Rattle.task_tree.specs.Blocks.{Block}
 use Rattle.task_unroll.specs.declared.refusal.ExpandRefusal.{ExpandRefusal}
 use Rattle.task_unroll.specs.Unrolling.{◌>>=◌}
@@ -38,6 +39,7 @@ program_of eager r = record {
   comms = r.last.comms;
   names = listed r.last.arrays;
   lens = listed r.lens;
+  starts = listed (starts_from 0 r.lens);
   shows = listed r.last.shows;
   tasks = listed r.last.tasks;
 }

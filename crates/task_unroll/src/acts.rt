@@ -11,7 +11,7 @@ ghost use Rattle.task_unroll.specs.Blocks.{bounds, holds};
 
 use crate::checks::{HandleCheck, call_is_formed, cells_sent, no_handle, stands_twice};
 use crate::counting::kept;
-use crate::kernel_calls::{kernel_call, span_len};
+use crate::kernel_calls::kernel_call;
 use crate::operands::{peer_of, tag_of};
 use crate::refusal::{ExpandRefusal, at_line};
 use crate::state::State;
@@ -56,7 +56,7 @@ impl State {
     }
 
     /// `array NAME , expr`
-    #[tactic(auto, unfolding(crate::specs::Acts::array_made, crate::specs::Counting::kept))]
+    #[tactic(auto, unfolding(crate::specs::Acts::array_made, crate::specs::Counting::kept), using(crate::proofs::Results::sum_push))]
     pub fn array_made(
         &mut self,
         alloc: Global,
@@ -91,7 +91,7 @@ impl State {
         Ok(())
     }
 
-    /// `comm NAME`: the next communicator (MPI 4.0, 6.2).
+    /// `comm NAME`: the next communicator (MPI 4.0, 7.2).
     #[tactic(auto, unfolding(crate::specs::Acts::comm_made, crate::specs::Counting::kept))]
     pub fn comm_made(&mut self, alloc: Global, line: u32, name: &Name) -> Result<(), ExpandRefusal>
         ensures { Gives (λ _. self.new) result (comm_made line name.now self.old) }
@@ -180,7 +180,7 @@ impl State {
         let accesses = kept(LimitName::Accesses, self.counts.accesses as u64 + 1)?;
         let cells = kept(
             LimitName::AccessCells,
-            self.counts.access_cells as u64 + span_len(span) as u64,
+            self.counts.access_cells as u64 + span.len() as u64,
         )?;
         self.counts.accesses = accesses;
         self.counts.access_cells = cells;

@@ -5,14 +5,13 @@ ghost use Rattle.std.specs.List.{list_all, list_any};
 ghost use Rattle.std.specs.Str.{bytes_eq};
 ghost use Rattle.rt_base.specs.declared.data.Access.{Access};
 ghost use Rattle.rt_base.specs.declared.data.FaultKind.TheVariants as fault;
-ghost use Rattle.rt_base.specs.Operations.{blocks, is_receive};
 ghost use Rattle.rt_base.specs.InUse.{is_in_use};
 ghost use Rattle.rt_base.specs.Touched.{reads, writes, shares_any, is_declared, is_writable};
 ghost use Rattle.rt_base.specs.WellFormed.{cells_sent};
 ghost use Rattle.task_unroll.specs.Checks.{check, no_handle, passed, differs, has_wrong_length, has_bad_shift, has_no_source, form_checks, access_checks, op_checks, stands_twice};
 ghost use Rattle.task_unroll.specs.Acts.{call_checks, is_any_peer, is_any_tag, handle_check};
 
-use crate::kernel_calls::{differs, has_bad_shift, has_no_source, has_wrong_length, span_len};
+use crate::kernel_calls::{differs, has_bad_shift, has_no_source, has_wrong_length};
 use crate::state::State;
 use cell_spans::Declared;
 use rt_base::{FaultKind, How, Kernel, Name, Op, Span};
@@ -36,31 +35,6 @@ pub(crate) fn no_handle() -> HandleCheck
     }
 }
 
-/// Whether the call returns only when its request is complete (MPI 4.0, 3.4 and 3.7).
-pub(crate) fn blocks(how: How) -> bool
-    ensures { result ≡ blocks how }
-{
-    match how {
-        How::Send => true,
-        How::Ssend => true,
-        How::Recv => true,
-        How::Isend => false,
-        How::Issend => false,
-        How::Irecv => false,
-    }
-}
-
-/// Whether it is a receive (MPI 4.0, 3.2.4 and 3.7.2).
-pub(crate) fn is_receive(how: How) -> bool
-    ensures { result ≡ is_receive how }
-{
-    match how {
-        How::Recv => true,
-        How::Irecv => true,
-        _ => false,
-    }
-}
-
 /// The cells that an operation sends.
 pub(crate) fn cells_sent(operation: &Op) -> u32
     ensures { result ≡ cells_sent operation.now }
@@ -73,7 +47,7 @@ pub(crate) fn cells_sent(operation: &Op) -> u32
             tag: _,
             comm: _,
             status: _,
-        } if !is_receive(*how) => span_len(*span),
+        } if !how.is_receive() => span.len(),
         _ => 0,
     }
 }
@@ -100,7 +74,7 @@ fn is_writable_or_none(declared: &Declared, span: Option<Span>) -> bool
 
 // Whether each cell that the operation touches lies in an access.
 fn touches_declared(declared: &Declared, operation: &Op) -> bool
-    ensures { result ≡ list_all (is_declared declared.now) (writes operation.now ++ reads operation.now) }
+    ensures { result ≡ list_all (is_declared declared.now) (writes declared.now operation.now ++ reads declared.now operation.now) }
 {
     match operation {
         Op::Compute {
@@ -133,7 +107,7 @@ fn touches_declared(declared: &Declared, operation: &Op) -> bool
 
 // Whether each cell that the operation writes lies in an access that may be written.
 fn writes_writable(declared: &Declared, operation: &Op) -> bool
-    ensures { result ≡ list_all (is_writable declared.now) (writes operation.now) }
+    ensures { result ≡ list_all (is_writable declared.now) (writes declared.now operation.now) }
 {
     match operation {
         Op::Compute {
@@ -152,7 +126,7 @@ fn writes_writable(declared: &Declared, operation: &Op) -> bool
             comm: _,
             status,
         } => {
-            (!is_receive(*how) || declared.is_writable(*span))
+            (!how.is_receive() || declared.is_writable(*span))
                 && is_writable_or_none(declared, *status)
         }
         Op::Await {
@@ -282,13 +256,13 @@ pub(crate) fn call_is_formed(
 ) -> Result<(), FaultKind>
     ensures { result ≡ passed (call_checks how handle.now peer.now tag.now status.now) }
 {
-    if blocks(how) == handle.is_some() {
+    if how.blocks() == handle.is_some() {
         return Err(FaultKind::Shape);
     }
-    if !is_receive(how) && (is_any_peer(peer) || is_any_tag(tag)) {
+    if !how.is_receive() && (is_any_peer(peer) || is_any_tag(tag)) {
         return Err(FaultKind::Shape);
     }
-    if !(is_receive(how) && blocks(how)) && status.is_some() {
+    if !(how.is_receive() && how.blocks()) && status.is_some() {
         return Err(FaultKind::Shape);
     }
     Ok(())
@@ -298,7 +272,7 @@ impl State {
     // The tests that come behind those of the accesses.
     #[tactic(auto, using(crate::proofs::Testing::passed_on, crate::proofs::Testing::passed_not))]
     fn tested_within(&self, handles: HandleCheck, operation: &Op) -> Result<(), FaultKind>
-        ensures { result ≡ passed (form_checks operation.now ++ check handles.kind handles.finds ∷ check fault.InUse (is_in_use self.now.body operation.now) ∷ []) }
+        ensures { result ≡ passed (form_checks operation.now ++ check handles.kind handles.finds ∷ check fault.InUse (is_in_use self.now.accesses self.now.body operation.now) ∷ []) }
     {
         match is_formed(operation) {
             Ok(()) => {}

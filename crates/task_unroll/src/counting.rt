@@ -3,39 +3,19 @@
 ghost use Rattle.std.specs.Prelude.{◌≡◌, ◌+◌, ◌<◌, ◌≤◌, ◌^◌, Ok, OnOk};
 ghost use Rattle.rt_base.specs.Operations.{postings};
 ghost use Rattle.task_unroll.specs.Unrolling.{Gives};
-ghost use Rattle.task_unroll.specs.Counting.{most, kept, operated};
+ghost use Rattle.task_unroll.specs.Counting.{kept, operated};
 
 use crate::refusal::ExpandRefusal;
 use crate::state::State;
 use rt_base::LimitName;
 use std::alloc::Global;
 
-// The greatest count.
-fn most(which: LimitName) -> u32
-    ensures { result ≡ most which }
-{
-    match which {
-        LimitName::Arrays => 1_024,
-        LimitName::Comms => 256,
-        LimitName::Cells => 16_777_216,
-        LimitName::Tasks => 65_536,
-        LimitName::Accesses => 4_194_304,
-        LimitName::AccessCells => 134_217_728,
-        LimitName::Operations => 1_048_576,
-        LimitName::Requests => 262_144,
-        LimitName::Names => 1_048_576,
-        LimitName::MessageCells => 67_108_864,
-        LimitName::Steps => 16_777_216,
-        LimitName::Pieces => 16_777_216,
-    }
-}
-
 /// The count, where it keeps the limit.
 #[tactic(auto, unfolding(crate::specs::Counting::kept))]
 pub(crate) fn kept(which: LimitName, count: u64) -> Result<u32, ExpandRefusal>
     ensures { result ≡ kept which count }
 {
-    if count <= most(which) as u64 {
+    if count <= which.number() as u64 {
         Ok(count as u32)
     } else {
         Err(ExpandRefusal::Limit { which })

@@ -1,18 +1,10 @@
 //! What a kernel asks of its operands.
 
 ghost use Rattle.std.specs.Prelude.{◌≡◌};
-ghost use Rattle.rt_base.specs.Spans.{span_len};
 ghost use Rattle.task_unroll.specs.Checks.{differs, has_wrong_length, has_bad_shift, has_no_source};
-ghost use Rattle.task_unroll.specs.Acts.{source_count, number_count, kernel_call};
+ghost use Rattle.task_unroll.specs.Acts.{kernel_call};
 
 use rt_base::{FaultKind, Kernel, Op, Span};
-
-/// How many cells a span has.
-pub(crate) fn span_len(span: Span) -> u32
-    ensures { result ≡ span_len span }
-{
-    span.to.saturating_sub(span.from)
-}
 
 /// Two lengths differ, where there is a source.
 pub(crate) fn differs(len: u128, source: Option<Span>) -> bool
@@ -20,7 +12,7 @@ pub(crate) fn differs(len: u128, source: Option<Span>) -> bool
 {
     match source {
         None => false,
-        Some(source) => span_len(source) as u128 != len,
+        Some(source) => source.len() as u128 != len,
     }
 }
 
@@ -33,7 +25,7 @@ pub(crate) fn has_wrong_length(
 ) -> bool
     ensures { result ≡ has_wrong_length kernel dst left right }
 {
-    let len = span_len(dst) as u128;
+    let len = dst.len() as u128;
     match kernel {
         Kernel::Fill => false,
         Kernel::Ramp => false,
@@ -67,41 +59,9 @@ pub(crate) fn has_no_source(kernel: Kernel, left: Option<Span>) -> bool
         return false;
     };
     match kernel {
-        Kernel::Least => span_len(source) == 0,
-        Kernel::Greatest => span_len(source) == 0,
+        Kernel::Least => source.len() == 0,
+        Kernel::Greatest => source.len() == 0,
         _ => false,
-    }
-}
-
-// How many sources a kernel takes.
-fn source_count(kernel: Kernel) -> usize
-    ensures { result ≡ source_count kernel }
-{
-    match kernel {
-        Kernel::Fill => 0,
-        Kernel::Ramp => 0,
-        Kernel::Copy => 1,
-        Kernel::Add => 2,
-        Kernel::Sub => 2,
-        Kernel::Scale => 1,
-        Kernel::Shift => 1,
-        Kernel::Jacobi2 => 1,
-        Kernel::Sum => 1,
-        Kernel::Least => 1,
-        Kernel::Greatest => 1,
-    }
-}
-
-// How many numbers a kernel takes.
-fn number_count(kernel: Kernel) -> usize
-    ensures { result ≡ number_count kernel }
-{
-    match kernel {
-        Kernel::Fill => 1,
-        Kernel::Ramp => 2,
-        Kernel::Scale => 1,
-        Kernel::Shift => 1,
-        _ => 0,
     }
 }
 
@@ -112,7 +72,7 @@ pub(crate) fn kernel_call(kernel: Kernel, spans: &[Span], numbers: &[i64]) -> Re
     let [dst, sources @ ..] = spans else {
         return Err(FaultKind::Shape);
     };
-    if sources.len() != source_count(kernel) || numbers.len() != number_count(kernel) {
+    if sources.len() != kernel.sources() || numbers.len() != kernel.numbers() {
         return Err(FaultKind::Shape);
     }
     Ok(Op::Compute {

@@ -145,7 +145,7 @@ impl State {
         }
     }
 
-    /// The communicator behind `on`, and world where there is none (MPI 4.0, 6.2).
+    /// The communicator behind `on`, and world where there is none (MPI 4.0, 7.2).
     pub(crate) fn communicator_of(&self, name: &Option<Name>) -> Result<u16, FaultKind>
         ensures { result ≡ communicator_of self.now name.now }
     {

@@ -1,12 +1,15 @@
 //! Where the unrolling of a text stands.
 
-ghost use Rattle.std.specs.Prelude.{◌≡◌, []};
+ghost use Rattle.std.specs.Prelude.{◌≡◌, ◌≤◌, [], sum};
+ghost use Rattle.rt_base.specs.declared.data.LimitName.TheVariants as limit;
+ghost use Rattle.rt_base.specs.Layout.{starts_from};
+ghost use Rattle.rt_base.specs.Limits.{most};
 ghost use Rattle.task_unroll.specs.States.{nothing_counted, begun};
 ghost use Rattle.task_unroll.specs.Ranks.{program_of};
 ghost use Rattle.task_unroll.specs.Views.{counts_of};
 
 use cell_spans::{Declared, OpenBody};
-use rt_base::{Lens, Name, Names, Program, Shows, TaskDef, Tasks};
+use rt_base::{Lens, Name, Names, Program, Shows, Starts, TaskDef, Tasks};
 use std::alloc::Global;
 use std::marker::Model;
 use task_names::Scope;
@@ -68,11 +71,11 @@ impl Model for State {
       lines = s.lines.items;
     } };
 
-    // Each taskwait is a step, and each request of the open task was counted.
-    ghost use Rattle.std.specs.Prelude.{◌≤◌};
+    // Each taskwait is a step, each request of the open task and each cell of the rank's arrays was counted, and the cells keep their limit.
+    ghost use Rattle.std.specs.Prelude.{◌≤◌, sum};
     ghost use Rattle.rt_base.specs.Operations.{postings};
 
-    ghost invariant = { λ s. (s.epoch ≤ s.counts.steps) × (postings s.body ≤ s.counts.requests) };
+    ghost invariant = { λ s. (s.epoch ≤ s.counts.steps) × (postings s.body ≤ s.counts.requests) × (sum s.lens.items ≤ s.counts.cells) × (sum s.lens.items ≤ 16777216) };
 }
 
 impl Counts {
@@ -156,7 +159,8 @@ impl State {
 
     /// The lengths of the arrays of the rank, by number.
     pub fn lens(&self) -> &[u32]
-        ensures { result.now ≡ self.now.lens }
+        ensures items { result.now ≡ self.now.lens }
+        ensures cells { sum result.now ≤ most limit.Cells }
     {
         self.lens.as_slice()
     }
@@ -168,8 +172,10 @@ impl State {
         self.tasks.as_slice()
     }
 
-    /// The program of an eager limit that the last rank leaves, with the lengths of the arrays of all ranks. Takes no memory.
-    pub fn into_program(self, eager: u32, lens: Vec<u32>) -> Program
+    /// The program of an eager limit that the last rank leaves, with the lengths of the arrays of all ranks and the table of where they begin. Takes no memory.
+    pub fn into_program(self, eager: u32, lens: Vec<u32>, starts: Starts) -> Program
+        requires items { starts.items ≡ starts_from 0 lens.items }
+        requires room { starts.room ≡ 0 }
         ensures { result ≡ program_of eager (record { lens = lens.items; last = self }) }
     {
         Program {
@@ -178,6 +184,7 @@ impl State {
             comms: self.comms,
             names: Names::from_vec(self.arrays),
             lens: Lens::from_vec(lens),
+            starts,
             shows: Shows::from_vec(self.shows),
             tasks: Tasks::from_vec(self.tasks),
         }

@@ -11,14 +11,14 @@ use self::random::Random;
 use super::Deps;
 use crate::scan;
 use rt_base::{
-    Access, Accesses, Body, Lens, Mode, Names, Program, Shows, Span, TaskDef, TaskNo, Tasks,
+    Access, Accesses, Body, Lens, Mode, Names, Program, Shows, Span, Starts, TaskDef, TaskNo, Tasks,
 };
 use std::alloc::{AllocError, Global};
 use std::test::Fail;
 
 impl Deps {
     // Whether the task was handed out and is not released.
-    fn is_held(&self, task: usize) -> bool
+    fn is_under_way(&self, task: usize) -> bool
         ensures handed { IsTrue result → slice_get self.now.handed task ≡ Some true }
         ensures held { IsTrue result → slice_get self.now.gone.released task ≡ Some false }
         ensures numbered { IsTrue result → task < 4294967296 }
@@ -70,6 +70,7 @@ fn program(alloc: Global, tasks: Vec<TaskDef>) -> Program
         comms: 1,
         names: Names::empty(alloc),
         lens: Lens::empty(alloc),
+        starts: Starts::empty(alloc),
         shows: Shows::empty(alloc),
         tasks: Tasks::from_vec(tasks),
     }
@@ -101,7 +102,7 @@ fn first_wrong(deps: &mut Deps, rows: &[(Option<u32>, &[u32])]) -> Option<usize>
     for row in 0..rows.len() {
         let (gone, startable) = rows[row];
         if let Some(task) = gone {
-            if !deps.is_held(task as usize) {
+            if !deps.is_under_way(task as usize) {
                 return Some(row);
             }
             deps.release(TaskNo(task));
@@ -238,7 +239,7 @@ impl Seen {
         let many = self.released.len();
         for step in 0..many {
             let task = (from % many + step) % many;
-            if deps.is_held(task) {
+            if deps.is_under_way(task) {
                 deps.release(TaskNo(task as u32));
                 self.released[task] = true;
                 return true;

@@ -24,4 +24,5 @@ returns-clause-bounds c place = (there, back)
     back : Contains (all_bounds c.args.tasks.now) place → Contains c.dedup.new.self.items place
     back at = subst (λ (items : List ℕ). Contains items place) (sym kept)
         (Contains-dedup_nat c.sort_unstable.new.self.items place
-        (Contains-permutation _ _ place c.sort_unstable.ensures.permutation (subst (λ (items : List ℕ). Contains items place) (sym c.in_ok-bounds.ensures.bounds) at)))
+        (Contains-permutation _ _ place c.sort_unstable.ensures.permutation
+        (subst (λ (items : List ℕ). Contains items place) (sym c.in_ok-bounds.ensures.bounds) at)))

@@ -17,7 +17,8 @@ returns-in-At c = awaits_nothing c.args.prog.now c.args.phases.now c.args.req (p
 
 pub returns-in-In : goal.returns-in-In
 returns-in-In c =
-    awaits_there c.args.prog.now c.args.phases.now c.args.req c.in-In.k c.task_of.result.now c.is_awaited_in.result c.if-req-phases.false c.in-In.is c.task_of.ensures c.is_awaited_in.ensures
+    awaits_there c.args.prog.now c.args.phases.now c.args.req c.in-In.k c.task_of.result.now c.is_awaited_in.result c.if-req-phases.false c.in-In.is
+    c.task_of.ensures c.is_awaited_in.ensures
 
 pub returns-in-Ended : goal.returns-in-Ended
 returns-in-Ended c = awaits_nothing c.args.prog.now c.args.phases.now c.args.req phase.Ended c.if-req-phases.false c.in-Ended.is refl

@@ -26,9 +26,9 @@ last-requires c =
     let i = c.in-Post in
     let x : Op = op.Post i.how i.span i.peer i.tag i.comm i.status in
     number_some (nth_at c.args.def.now c.args.k) c.args.req.task.0 c.args.posted.now
-    (posting_number c.args.def.now c.args.k c.args.req.task.0 i.how i.span i.peer i.tag i.comm i.status c.args.posted.now c.requires
+    (posting_number c.args.def.now c.args.k c.args.req.task.0 x c.args.posted.now c.requires
     (at_place c.args.def.now.body.items c.args.k c.index-as_slice-k.result x (omega arith)
-    (c.index-as_slice-k.is ∙ ap (λ (ops : List Op). get_or ops c.args.k c.index-as_slice-k.result) c.as_slice.ensures) i.is))
+    (c.index-as_slice-k.is ∙ ap (λ (ops : List Op). get_or ops c.args.k c.index-as_slice-k.result) c.as_slice.ensures) i.is) refl)
 
 pub returns-then-blocks : goal.returns-then-blocks
 returns-then-blocks c =
@@ -37,10 +37,11 @@ returns-then-blocks c =
     let here = at_place c.args.def.now.body.items c.args.k c.index-as_slice-k.result x (omega arith)
     (c.index-as_slice-k.is ∙ ap (λ (ops : List Op). get_or ops c.args.k c.index-as_slice-k.result) c.as_slice.ensures) i.is in
     let last = last_number (nth_at c.args.def.now c.args.k) c.args.req.task.0 c.last.result c.args.posted.now
-    (posting_number c.args.def.now c.args.k c.args.req.task.0 i.how i.span i.peer i.tag i.comm i.status c.args.posted.now c.requires here) c.last.ensures in
+    (posting_number c.args.def.now c.args.k c.args.req.task.0 x c.args.posted.now c.requires here refl) c.last.ensures in
     awaited_among c.args.def.now c.args.k x c.args.req _ here
     (one_among c.args.req (nth_at c.args.def.now c.args.k) (blocks i.how) _
-    (ap (λ n. n == c.args.req.nth) last ∙ sym (ap (λ b. b && (nth_at c.args.def.now c.args.k == c.args.req.nth)) (sym c.blocks-in-Post.ensures ∙ c.if-blocks.true))))
+    (ap (λ n. n == c.args.req.nth) last ∙ sym (ap (λ b. b && (nth_at c.args.def.now c.args.k == c.args.req.nth)) (sym c.blocks-in-Post.ensures
+    ∙ c.if-blocks.true))))
 
 pub returns-else-blocks : goal.returns-else-blocks
 returns-else-blocks c =
@@ -57,4 +58,5 @@ returns-in-Await c =
     let x : Op = op.Await i.later i.handles i.status in
     awaited_among c.args.def.now c.args.k x c.args.req _ (at_place c.args.def.now.body.items c.args.k c.index-as_slice-k.result x (omega arith)
     (c.index-as_slice-k.is ∙ ap (λ (ops : List Op). get_or ops c.args.k c.index-as_slice-k.result) c.as_slice.ensures) i.is)
-    (c.is_named.ensures c.args.req.task.0 ∙ ap (λ (hs : List Handle). list_any (same_request c.args.req) (named_requests c.args.req.task.0 hs)) c.as_slice-in-Await.ensures)
+    (c.is_named.ensures c.args.req.task.0 ∙ ap (λ (hs : List Handle). list_any (same_request c.args.req)
+    (named_requests c.args.req.task.0 hs)) c.as_slice-in-Await.ensures)

@@ -7,4 +7,5 @@ use Rattle.core_book.proofs.posting.is_named.Given as goal
 -- the request is named exactly where it is among the rest
 abbrev pub invariant-loop-handle : goal.invariant-loop-handle
 invariant-loop-handle l =
-    (t : ℕ) → list_any (same_request (request t l.nth)) (named_requests t (drop l.handle-index l.handles)) ≡ list_any (same_request (request t l.nth)) (named_requests t l.handles)
+    (t : ℕ) → list_any (same_request (request t l.nth)) (named_requests t (drop l.handle-index l.handles)) ≡ list_any (same_request (request t l.nth))
+    (named_requests t l.handles)

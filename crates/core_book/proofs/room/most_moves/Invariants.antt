@@ -1,5 +1,5 @@
 use Rattle.std.proofs.Common.{◌≡◌, take}
-use Rattle.core_book.specs.Kept.{most_moves}
+use Rattle.task_machine.specs.Course.{most_moves}
 use Rattle.core_book.proofs.room.most_moves.Given as goal
 
 -- the moves of the tasks so far

@@ -1,6 +1,7 @@
 -- The loop passes local operations, and stops at the first other one or at the end.
 use Rattle.std.proofs.Common.{sym, ◌∙◌}
-use Rattle.core_book.proofs.Stops.{stop_passed, stop_begins}
+use Rattle.task_machine.proofs.Stops.{stop_begins}
+use Rattle.core_book.proofs.Stops.{stop_passed}
 use Rattle.core_book.proofs.tasks.stop.Goals as goal
 
 pub loop-at-init : goal.loop-at-init

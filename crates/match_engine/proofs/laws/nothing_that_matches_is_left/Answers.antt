@@ -1,4 +1,4 @@
-use Rattle.match_engine.proofs.Overtaking.{nothing_law}
+use Rattle.match_engine.proofs.Leftovers.{nothing_law}
 use Rattle.match_engine.proofs.laws.nothing_that_matches_is_left.Goals as goal
 
 pub returns : goal.returns

@@ -8,5 +8,6 @@ pub returns-clause-position : goal.returns-clause-position
 returns-clause-position c =
     let parted = IsPartitionedBy-ltb (λ b. b) _ c.args.place (IsNonDecreasingBy-from_default (λ b. b) c.args.bounds.now 0 c.requires) in
     let point = IsPartitionPoint-from_clause (λ b. ltb b c.args.place) _ _ c.partition_point.ensures.partitioned parted (λ a r q k. search rules) in
-    sym (prefix_len_is (λ b. ltb b c.args.place) c.args.bounds.now c.partition_point.result 0 c.partition_point.ensures.bound (λ k lt. point.0 k 0 (omega arith) lt)
+    sym (prefix_len_is (λ b. ltb b c.args.place) c.args.bounds.now c.partition_point.result 0 c.partition_point.ensures.bound
+    (λ k lt. point.0 k 0 (omega arith) lt)
     (λ within. point.1 c.partition_point.result 0 (omega arith) within))

@@ -14,5 +14,7 @@ add_barriers-requires-clause-numbered c = omega (arith, c.requires.accesses, reg
 
 pub returns-clause-links : goal.returns-clause-links
 returns-clause-links c =
-    linked_up c.args.tasks.now c.in_ok-links.links.items c.add_barriers.new.links.items c.args.heads.now c.in_ok-regions.regions.items c.deref.result.now c.args.accesses
-    c.requires.grouped c.requires.accesses c.in_ok-regions.ensures.regions c.deref.ensures.value c.in_ok-links.ensures.full c.in_ok-links.ensures.sound c.in_ok-add_barriers.ensures
+    linked_up c.args.tasks.now c.in_ok-links.links.items c.add_barriers.new.links.items c.args.heads.now c.in_ok-regions.regions.items c.deref.result.now
+    c.args.accesses
+    c.requires.grouped c.requires.accesses c.in_ok-regions.ensures.regions c.deref.ensures.value c.in_ok-links.ensures.full c.in_ok-links.ensures.sound
+    c.in_ok-add_barriers.ensures

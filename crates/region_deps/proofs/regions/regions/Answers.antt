@@ -9,8 +9,10 @@ use Rattle.region_deps.proofs.regions.regions.Goals as goal
 
 pub loop-task-preserved : goal.loop-task-preserved
 loop-task-preserved c = record {
-  regions = regions_more c.args.tasks.now c.loop-task.task c.index-tasks-task.result _ _ _ c.loop-task-test.true c.index-tasks-task.is c.loop-task.invariant.regions c.in_ok-add.ensures.added;
-  small = All-more IsSmallTask c.args.tasks.now c.loop-task.task c.index-tasks-task.result c.loop-task-test.true c.loop-task.invariant.small (subst IsSmallTask c.index-tasks-task.is c.in_ok-add.ensures.small);
+  regions = regions_more c.args.tasks.now c.loop-task.task c.index-tasks-task.result _ _ _ c.loop-task-test.true c.index-tasks-task.is
+      c.loop-task.invariant.regions c.in_ok-add.ensures.added;
+  small = All-more IsSmallTask c.args.tasks.now c.loop-task.task c.index-tasks-task.result c.loop-task-test.true c.loop-task.invariant.small
+      (subst IsSmallTask c.index-tasks-task.is c.in_ok-add.ensures.small);
 }
 
 pub returns-clause-small : goal.returns-clause-small

@@ -14,7 +14,8 @@ use rt_base::{Access, TaskDef};
 // Whether the access overlaps with none behind it.
 fn is_alone(accesses: &[Access], one: usize) -> bool
     requires { one < length accesses.now }
-    ensures { IsTrue result → (j : ℕ) (d : Access) → one < j → j < length accesses.now → ¬ Overlaps (slice_index_or accesses.now one d).span (slice_index_or accesses.now j d).span }
+    ensures { IsTrue result → (j : ℕ) (d : Access) → one < j → j < length accesses.now
+        → ¬ Overlaps (slice_index_or accesses.now one d).span (slice_index_or accesses.now j d).span }
 {
     for other in one + 1..accesses.len() {
         if overlaps(&accesses[one].span, &accesses[other].span) {

@@ -7,6 +7,7 @@ use Rattle.tampi_top.proofs.words.settings_of.Given as goal
 -- the words that are left lead from what was read so far to the whole command
 abbrev pub invariant-loop-word : goal.invariant-loop-word
 invariant-loop-word l = record {
-  leads : command_of_rest l.settings (option_copied l.waiting) (map string_bytes (drop l.word-index l.words)) ≡ command_of_rest nothing_given None (map string_bytes l.words);
+  leads : command_of_rest l.settings (option_copied l.waiting) (map string_bytes (drop l.word-index l.words))
+      ≡ command_of_rest nothing_given None (map string_bytes l.words);
   range : InRange l.settings;
 }

@@ -12,4 +12,5 @@ loop-op-preserved c =
     c.loop-op.invariant c.scratch_len.ensures
 
 pub returns : goal.returns
-returns c = subst (λ (ops : List Op). IsScratchOf c.args.index.now ops c.loop-op.longest) (take_all c.loop-op.op-index c.args.body.now (omega arith)) c.loop-op.invariant
+returns c = subst (λ (ops : List Op). IsScratchOf c.args.index.now ops c.loop-op.longest)
+    (take_all c.loop-op.op-index c.args.body.now (omega arith)) c.loop-op.invariant

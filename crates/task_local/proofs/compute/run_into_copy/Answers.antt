@@ -10,7 +10,8 @@ run_kernel-requires c =
     let outer = c.split_at_mut-front in
     let inner = c.split_at_mut-cells in
     let cells = inner.result.0.now in
-    let whole : outer.result.0.now ++ (cells ++ inner.result.1.now) ≡ copy = sym (outer.ensures.value ∙ ap (λ (rest : List ℤ). outer.result.0.now ++ rest) inner.ensures.value) in
+    let whole : outer.result.0.now ++ (cells ++ inner.result.1.now) ≡ copy =
+    sym (outer.ensures.value ∙ ap (λ (rest : List ℤ). outer.result.0.now ++ rest) inner.ensures.value) in
     let from = c.cells_beside-from.ensures cells (omega arith) ∙ ap (λ (all : List ℤ). cells_at placed.left.at placed.left.count all) whole in
     let with = c.cells_beside-with.ensures cells (omega arith) ∙ ap (λ (all : List ℤ). cells_at placed.right.at placed.right.count all) whole in
     takes_same placed.kernel placed.dst.count _ placed.left.count _ placed.right.count _ placed.value _ (omega arith)
@@ -25,9 +26,11 @@ returns c =
     let outer = c.split_at_mut-front in
     let inner = c.split_at_mut-cells in
     let cells = inner.result.0.now in
-    let whole : outer.result.0.now ++ (cells ++ inner.result.1.now) ≡ copy = sym (outer.ensures.value ∙ ap (λ (rest : List ℤ). outer.result.0.now ++ rest) inner.ensures.value) in
+    let whole : outer.result.0.now ++ (cells ++ inner.result.1.now) ≡ copy =
+    sym (outer.ensures.value ∙ ap (λ (rest : List ℤ). outer.result.0.now ++ rest) inner.ensures.value) in
     let from = c.cells_beside-from.ensures cells (omega arith) ∙ ap (λ (all : List ℤ). cells_at placed.left.at placed.left.count all) whole in
     let with = c.cells_beside-with.ensures cells (omega arith) ∙ ap (λ (all : List ℤ). cells_at placed.right.at placed.right.count all) whole in
     let back = inner.ensures.back ∙ ap (λ (rest : List ℤ). drop placed.dst.count rest) outer.ensures.back in
-    written_between placed.dst.at placed.dst.count copy outer.result.0.now inner.result.1.now c.run_kernel.new.dst outer.ensures.front back (c.run_kernel.auto.dst ∙ inner.ensures.front_len)
+    written_between placed.dst.at placed.dst.count copy outer.result.0.now inner.result.1.now c.run_kernel.new.dst outer.ensures.front back
+    (c.run_kernel.auto.dst ∙ inner.ensures.front_len)
     ∙ placed_value_is placed copy _ _ _ _ _ _ inner.ensures.front_len from with (search rules) (search rules) c.run_kernel.ensures

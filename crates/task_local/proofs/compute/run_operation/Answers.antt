@@ -21,7 +21,8 @@ returns-in-Compute c =
     let step : ℤ = to_z w64 (of_z w64 here.step) in
     let cells : List ℤ = kernel_value here.kernel dst.result.count from with value step in
     subst (λ (o : Op). c.run_placed.new.copy ≡ computed c.args.def.now o copy) (sym here.is)
-    (computed_is c.args.def.now ordered copy from with cells c.run_placed.new.copy dst.result.count here.kernel here.dst here.left here.right here.value here.step value step
+    (computed_is c.args.def.now ordered copy from with cells c.run_placed.new.copy dst.result.count here.kernel here.dst here.left here.right here.value
+    here.step value step
     c.requires.regions (search rules) (search rules) dst.ensures.count
     (part_is_source ordered copy here.left left.result.at left.result.count left.ensures.at left.ensures.count)
     (part_is_source ordered copy here.right right.result.at right.result.count right.ensures.at right.ensures.count)

@@ -7,7 +7,8 @@ pub returns : goal.returns
 returns c =
     let number = c.args.array * 2 ^ 32 + c.args.cell in
     let parted = IsPartitionedBy-leb first_cell _ number c.requires in
-    let point = IsPartitionPoint-from_clause (λ access. leb (first_cell access) number) _ _ c.partition_point.ensures.partitioned parted (λ a r q k. search rules) in
+    let point = IsPartitionPoint-from_clause (λ access. leb (first_cell access) number) _ _ c.partition_point.ensures.partitioned parted
+    (λ a r q k. search rules) in
     record {
       within = omega arith;
       begun = λ k d lt. leb-true _ _ (point.0 k d (omega arith) lt);

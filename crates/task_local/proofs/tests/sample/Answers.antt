@@ -1,18 +1,19 @@
-use Rattle.std.proofs.Common.{[], ◌∷◌, length, ap, ap₂, ◌∙◌, refl}
+use Rattle.std.proofs.Common.{[], ◌∷◌, ap, ap₂, ◌∙◌}
 use Rattle.rt_base.specs.declared.data.Op.{Op}
 use Rattle.task_local.proofs.Samples.{sample_is_well_formed, third_declares}
 use Rattle.task_local.proofs.tests.sample.Goals as goal
 
 pub returns-clause-well_formed : goal.returns-clause-well_formed
 returns-clause-well_formed c =
-    sample_is_well_formed _ c.in_ok-first.first c.in_ok-second.second c.in_ok-third.third (record {
-      ranks = refl;
-      eager = refl;
-      comms = refl;
-      names = ap length (c.from_vec.ensures.items ∙ c.in_ok-vec-4.ensures.items);
-      lens = c.from_vec-2.ensures.items ∙ c.in_ok-vec-5.ensures.items;
-      shows = c.empty.ensures.items;
-      tasks = c.from_vec-3.ensures.items ∙ c.in_ok-vec-6.ensures.items;
+    sample_is_well_formed c.in_ok-program.program c.in_ok-first.first c.in_ok-second.second c.in_ok-third.third (record {
+      ranks = c.in_ok-program.ensures.ranks;
+      eager = c.in_ok-program.ensures.eager;
+      comms = c.in_ok-program.ensures.comms;
+      names = c.in_ok-program.ensures.names;
+      lens = c.in_ok-program.ensures.lens;
+      starts = c.in_ok-program.ensures.starts;
+      shows = c.in_ok-program.ensures.shows;
+      tasks = c.in_ok-program.ensures.tasks ∙ c.in_ok-vec-4.ensures.items;
       is_first = record {
         rank = c.in_ok-first.ensures.rank;
         epoch = c.in_ok-first.ensures.epoch;
@@ -23,7 +24,8 @@ returns-clause-well_formed c =
         rank = c.in_ok-second.ensures.rank;
         epoch = c.in_ok-second.ensures.epoch;
         accesses = c.in_ok-second.ensures.accesses;
-        operations = c.in_ok-second.ensures.body ∙ c.in_ok-vec-2.ensures.items ∙ ap₂ (λ (o other : Op). o ∷ other ∷ []) c.shared_copy.ensures c.fill_of_no_cell.ensures;
+        operations = c.in_ok-second.ensures.body ∙ c.in_ok-vec-2.ensures.items
+            ∙ ap₂ (λ (o other : Op). o ∷ other ∷ []) c.shared_copy.ensures c.fill_of_no_cell.ensures;
       };
       is_third = record {
         rank = c.in_ok-third.ensures.rank;
@@ -35,4 +37,5 @@ returns-clause-well_formed c =
 
 pub returns-clause-declared : goal.returns-clause-declared
 returns-clause-declared c =
-    third_declares c.from_vec-3.result.items c.in_ok-first.first c.in_ok-second.second c.in_ok-third.third (c.from_vec-3.ensures.items ∙ c.in_ok-vec-6.ensures.items) c.in_ok-third.ensures.accesses
+    third_declares c.in_ok-program.program.tasks.items c.in_ok-first.first c.in_ok-second.second c.in_ok-third.third
+    (c.in_ok-program.ensures.tasks ∙ c.in_ok-vec-4.ensures.items) c.in_ok-third.ensures.accesses

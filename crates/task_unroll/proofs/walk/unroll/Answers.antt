@@ -15,13 +15,15 @@ step-requires-clause-here c = found_at c.args.stmts.now _ _ c.in-Some.ensures.lo
 -- each step counts, or goes on to a later place
 pub loop-stmt-smaller : goal.loop-stmt-smaller
 loop-stmt-smaller c =
-    falls c.args.stmts.now (spot c.loop-stmt.state c.loop-stmt.walk.place c.loop-stmt.walk.levels) (spot c.step.new.state c.step.new.self.place c.step.new.self.levels)
+    falls c.args.stmts.now (spot c.loop-stmt.state c.loop-stmt.walk.place c.loop-stmt.walk.levels)
+    (spot c.step.new.state c.step.new.self.place c.step.new.self.levels)
     c.in-Some.stmt.now (found_at c.args.stmts.now _ _ c.in-Some.ensures.lookup.3) c.in-Ok.ensures
 
 -- each step goes on with what is left to do
 pub loop-stmt-preserved : goal.loop-stmt-preserved
 loop-stmt-preserved c = λ whole e.
-    goes_on c.args.stmts.now _ (spot c.loop-stmt.state c.loop-stmt.walk.place c.loop-stmt.walk.levels) (spot c.step.new.state c.step.new.self.place c.step.new.self.levels)
+    goes_on c.args.stmts.now _ (spot c.loop-stmt.state c.loop-stmt.walk.place c.loop-stmt.walk.levels)
+    (spot c.step.new.state c.step.new.self.place c.step.new.self.levels)
     c.in-Some.stmt.now (found_at c.args.stmts.now _ _ c.in-Some.ensures.lookup.3) (c.loop-stmt.invariant whole e) c.in-Ok.ensures
 
 -- a refusal of a step is the refusal of the text

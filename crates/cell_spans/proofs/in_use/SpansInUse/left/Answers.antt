@@ -5,7 +5,8 @@ use Rattle.cell_spans.proofs.in_use.SpansInUse.left.Goals as goal
 
 pub returns-clause-first : goal.returns-clause-first
 returns-clause-first c earlier holds =
-    c.first_unnamed.ensures.first ∙ ap (λ requests. slice_get (unnamed 0 requests) 0) (c.deref.ensures.value ∙ holds.requests) ∙ ap (λ numbers. slice_get numbers 0) (sym (left_is 0 0 earlier refl))
+    c.first_unnamed.ensures.first ∙ ap (λ requests. slice_get (unnamed 0 requests) 0) (c.deref.ensures.value ∙ holds.requests)
+    ∙ ap (λ numbers. slice_get numbers 0) (sym (left_is 0 0 earlier refl))
 
 pub returns-clause-posted : goal.returns-clause-posted
 returns-clause-posted c earlier holds = rw (← (count_is 0 earlier), ← holds.requests, ← c.deref.ensures.value) c.first_unnamed.ensures.posted

@@ -23,8 +23,10 @@ returns-else-later-clause-requests c = rw c.release.ensures.requests (
 
 pub returns-else-later-clause-spans : goal.returns-else-later-clause-spans
 returns-else-later-clause-spans c statuses had = rw (c.noted-else-later.ensures, c.if-later.false, c.release.ensures.requests) (record {
-  received = c.release.ensures.received _ (freed is_receiving _ c.args.n c.index-request.result.now (noted false c.index-request.result.now) statuses _ _ c.requires c.index-request.ensures
+  received = c.release.ensures.received _ (freed is_receiving _ c.args.n c.index-request.result.now (noted false c.index-request.result.now) statuses _ _
+      c.requires c.index-request.ensures
       (and_false c.index-request.result.now.used) had.received);
-  sent = c.release.ensures.sent _ (freed is_sending _ c.args.n c.index-request.result.now (noted false c.index-request.result.now) [] _ _ c.requires c.index-request.ensures
+  sent = c.release.ensures.sent _ (freed is_sending _ c.args.n c.index-request.result.now (noted false c.index-request.result.now) [] _ _ c.requires
+      c.index-request.ensures
       (and_false c.index-request.result.now.used) had.sent);
 })

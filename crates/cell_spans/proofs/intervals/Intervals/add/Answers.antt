@@ -5,7 +5,8 @@ use Rattle.cell_spans.proofs.intervals.Intervals.add.Goals as goal
 
 -- the map after both steps
 added : (c : goal.After-remove-taken_in)
-    → IsAdded (end_at c.self.inside.ends.entries) (end_at c.remove-taken_in.new.self.entries) c.args.interval.begin c.args.interval.end c.joined_begin-begin.result c.joined_end-end.result
+    → IsAdded (end_at c.self.inside.ends.entries) (end_at c.remove-taken_in.new.self.entries) c.args.interval.begin c.args.interval.end
+    c.joined_begin-begin.result c.joined_end-end.result
 added c = record {
   some = c.requires.some;
   clear = rw c.self.view_is c.requires.apart;

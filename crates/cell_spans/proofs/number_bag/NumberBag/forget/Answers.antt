@@ -4,4 +4,5 @@ use Rattle.cell_spans.proofs.number_bag.NumberBag.forget.Goals as goal
 
 pub returns-then-len : goal.returns-then-len
 returns-then-len c =
-    c.clear.ensures ∙ sym (sym c.self.view_is ∙ spent c.self.inside.removed c.self.inside.added c.self.invariant (omega (arith, c.if-len.true, c.len.ensures, c.len-2.ensures)))
+    c.clear.ensures ∙ sym (sym c.self.view_is
+    ∙ spent c.self.inside.removed c.self.inside.added c.self.invariant (omega (arith, c.if-len.true, c.len.ensures, c.len-2.ensures)))

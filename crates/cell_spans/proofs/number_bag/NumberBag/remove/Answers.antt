@@ -15,4 +15,11 @@ returns-then-count_of c some test = rw (c.forget.ensures, ← c.self.view_is) (
 pub returns-else-count_of : goal.returns-else-count_of
 returns-else-count_of c some =
     let there : 0 < count_by (nat_eq c.args.number) (without c.self.inside.removed c.self.inside.added) = rw c.self.view_is some in
-    absurd (omega (arith, c.if-count_of.false, c.count_of.ensures, c.count_of-2.ensures, there, left_and_gone c.self.inside.removed c.self.inside.added c.self.invariant (nat_eq c.args.number)))
+    absurd (omega (
+      arith,
+      c.if-count_of.false,
+      c.count_of.ensures,
+      c.count_of-2.ensures,
+      there,
+      left_and_gone c.self.inside.removed c.self.inside.added c.self.invariant (nat_eq c.args.number),
+    ))

@@ -1,10 +1,11 @@
--- A new book's fields are the opening state.
+-- A new book's insides are the opening state.
 use Rattle.std.proofs.Common.{◌≡◌, ap, ◌∙◌, arith}
 use Rattle.std.specs.Prelude.{List, ℕ, replicate, pos, sum}
 use Rattle.rt_base.specs.declared.data.Phase.TheVariants as phase
-use Rattle.core_book.specs.Kept.{most_moves}
-use Rattle.core_book.proofs.BookLemmas.{few_moves, new_book}
 use Rattle.region_deps.specs.Readiness.{Readiness}
+use Rattle.task_machine.specs.Course.{most_moves}
+use Rattle.core_book.proofs.Few.{few_moves}
+use Rattle.core_book.proofs.BookLemmas.{new_book}
 use Rattle.core_book.proofs.CountLemmas.{counted_first}
 use Rattle.core_book.proofs.Numbers.{numbered_first}
 use Rattle.core_book.proofs.book.Book.build.Goals as goal
@@ -16,14 +17,27 @@ pub invariant_of-result : goal.invariant_of-result
 invariant_of-result c =
     let p = c.args.prog.now in
     let moves : c.most_moves-moves.result ≡ most_moves p.tasks.items = c.most_moves-moves.ensures ∙ ap most_moves c.as_slice.ensures in
-    rw c.of.ensures (
-      new_book p c.args.workers c.in_ok-build.field-0 c.in_ok-zeros.field-0.items c.in_ok-all_waiting.field-0.items c.in_ok-build-2.field-0 c.in_ok-with_capacity.field-0.items c.in_ok-with_capacity-2.field-0.items
-          c.in_ok-with_capacity-3.field-0.items _ _ _ c.requires.well_formed c.in_ok-build.ensures.untouched c.in_ok-build.ensures.places c.in_ok-build-2.ensures.program c.in_ok-build-2.ensures.exchange (c.in_ok-zeros.ensures ∙ ap (λ n. replicate n (pos 0)) (c.cell_count.ensures ∙ ap (λ (l : List ℕ). sum l) c.as_slice-2.ensures)) (c.in_ok-all_waiting.ensures ∙ ap (λ n. replicate n phase.Waiting) c.len.ensures) c.in_ok-with_capacity.ensures.items
-          c.in_ok-with_capacity-2.ensures.items c.in_ok-with_capacity-3.ensures.items (omega (arith, c.in_ok-with_capacity-2.ensures.exact)) (omega (arith, c.in_ok-with_capacity-3.ensures.exact))
-          (omega (arith, c.in_ok-with_capacity.ensures.exact)),
-      counted_first p c.in_ok-build.field-0.handed c.in_ok-all_waiting.field-0.items c.in_ok-build-2.field-0.exchange c.len-2.result c.in_ok-ones.field-0
-          (ap (λ (r : Readiness). r.handed) c.in_ok-build.ensures.untouched) (c.in_ok-all_waiting.ensures ∙ ap (λ n. replicate n phase.Waiting) c.len.ensures) c.len-2.ensures
-          (c.in_ok-ones.ensures ∙ ap (λ n. replicate n 1) c.len-3.ensures),
-      numbered_first p c.in_ok-all_waiting.field-0.items c.in_ok-none.field-0 (c.in_ok-all_waiting.ensures ∙ ap (λ n. replicate n phase.Waiting) c.len.ensures)
-          (c.in_ok-none.ensures ∙ ap (λ n. replicate n 0) c.len-4.ensures),
-    )
+    let waiting = c.in_ok-all_waiting.ensures ∙ ap (λ n. replicate n phase.Waiting) c.len.ensures in
+    rw c.of.ensures (record {
+      kept = new_book _ (record {
+        well = c.requires.well_formed;
+        fresh = c.in_ok-build.ensures.none_handed_out;
+        whole = c.in_ok-build.ensures.places;
+        engine_of = c.in_ok-build-2.ensures.program;
+        quiet = c.in_ok-build-2.ensures.exchange;
+        memory_is = c.in_ok-zeros.ensures ∙ ap (λ n. replicate n (pos 0)) (c.cell_count.ensures ∙ ap (λ (l : List ℕ). sum l) c.as_slice-2.ensures);
+        phases_are = waiting;
+        notices_are = c.in_ok-with_capacity.ensures.items;
+        entries_are = c.in_ok-with_capacity-2.ensures.items;
+        statuses_are = c.in_ok-with_capacity-3.ensures.items;
+        entry_places = omega (arith, c.in_ok-with_capacity-2.ensures.exact);
+        status_places = omega (arith, c.in_ok-with_capacity-3.ensures.exact);
+        notice_places = omega (arith, c.in_ok-with_capacity.ensures.exact);
+      });
+      counted = counted_first p _ c.in_ok-build.field-0.handed c.in_ok-all_waiting.field-0.items c.in_ok-build-2.field-0.exchange c.len-2.result
+          c.in_ok-ones.field-0
+          (ap (λ (r : Readiness). r.handed) c.in_ok-build.ensures.none_handed_out) waiting c.len-2.ensures (c.in_ok-ones.ensures
+          ∙ ap (λ n. replicate n 1) c.len-3.ensures);
+      numbered = numbered_first p c.in_ok-all_waiting.field-0.items c.in_ok-none.field-0 waiting (c.in_ok-none.ensures
+          ∙ ap (λ n. replicate n 0) c.len-4.ensures);
+    })

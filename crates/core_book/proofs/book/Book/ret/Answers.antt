@@ -1,32 +1,70 @@
 -- The book after a return, and the record.
-use Rattle.core_book.proofs.BookMoves.{stands_here, ret_invariant, ret_makes, room_at_return}
+use Rattle.std.proofs.Common.{◌∙◌, sym, subst, slice_set, refl, arith}
+use Rattle.std.specs.Prelude.{vec_capacity}
+use Rattle.rt_base.specs.declared.data.Phase.TheVariants as phase
+use Rattle.rt_base.specs.declared.data.Program.{Program}
+use Rattle.rt_base.specs.declared.data.Entry.{Entry}
+use Rattle.std.specs.Prelude.{List}
+use Rattle.task_local.specs.StandsFor.{Record, StandsFor, StandsAs}
+use Rattle.task_machine.specs.Legal.{final}
+use Rattle.core_book.specs.Kept.{Shelf, state_now}
+use Rattle.core_book.proofs.Insides.{shelf_of}
+use Rattle.core_book.proofs.Moved.{book_after, gone_more, makes_move}
+use Rattle.core_book.proofs.Held.{Held, held_as, own, room_at}
+use Rattle.core_book.proofs.BookMoves.{left_as, returned_task, ret_changed, ret_moved}
 use Rattle.core_book.proofs.CountMoves.{ret_counted}
 use Rattle.core_book.proofs.Numbers.{ret_numbered}
 use Rattle.core_book.proofs.book.Book.ret.Goals as goal
+use Rattle.core_book.proofs.book.Book.ret.Goals.{After-task-task, After-note}
+
+stands : (c : After-task-task) → StandsFor (shelf_of c.self.inside).program c.args.rec.now (state_now (shelf_of c.self.inside))
+stands c =
+    own (λ (q : Program) (es : List Entry). StandsFor q c.args.rec.now (final q es))
+    (shelf_of c.self.inside) c.args.self.now c.args.prog.now c.self.view_is c.requires.same c.requires.stands
+
+here : (c : After-task-task) → Held (shelf_of c.self.inside) c.args.rec.now c.task-task.result.0 (stands c).def phase.Ended
+unfolding stands
+here c = held_as (shelf_of c.self.inside) c.args.rec.now c.task-task.result.0 phase.Ended (stands c) c.task-task.ensures c.requires.ended
+
+-- the insides after the return
+abbrev later : (c : After-note) → Shelf
+later c = record (shelf_of c.self.inside) {
+  phases = slice_set c.self.inside.phases.items c.task-task.result.0 phase.Returned;
+  entries = c.note.new.list.items;
+  entry_places = vec_capacity c.note.new.list;
+}
 
 pub note-requires : goal.note-requires
 note-requires c =
-    let b = c.self.inside in
-    room_at_return b.program.value b.workers b.deps b.memory.items b.phases.items b.engine b.notices.items b.entries.items b.statuses.items _ _ _ c.args.rec.now c.self.invariant.0
-    (stands_here c.args.self.now b.program.value c.args.prog.now b.workers b.entries.items b.statuses.items b.deps.handed c.args.rec.now c.self.view_is c.requires.same c.requires.stands) c.requires.ended
+    let h = here (goal.at.note-requires c).After-task-task in
+    (room_at (shelf_of c.self.inside) c.args.rec.now c.task-task.result.0 _ phase.Ended phase.Ended c.self.invariant.kept h h.stands.0 (omega arith)).0
 
 pub invariant_of-self : goal.invariant_of-self
 invariant_of-self c =
-    let b = c.self.inside in (
-      ret_invariant b.program.value b.workers b.deps b.memory.items b.phases.items b.engine b.notices.items b.entries.items c.note.new.list.items b.statuses.items _ _ _ _ c.args.rec.now c.task-task.result.0
-          c.self.invariant.0 (stands_here c.args.self.now b.program.value c.args.prog.now b.workers b.entries.items b.statuses.items b.deps.handed c.args.rec.now c.self.view_is c.requires.same c.requires.stands)
-          c.requires.ended c.task-task.ensures c.note.ensures.items c.note.ensures.places,
-      ret_counted b.program.value b.workers b.deps b.memory.items b.phases.items b.engine b.notices.items b.entries.items b.statuses.items _ _ _ b.held b.waits c.args.rec.now c.task-task.result.0 c.self.invariant.0 c.self.invariant.1
-          (stands_here c.args.self.now b.program.value c.args.prog.now b.workers b.entries.items b.statuses.items b.deps.handed c.args.rec.now c.self.view_is c.requires.same c.requires.stands)
-          c.requires.ended c.task-task.ensures,
-      ret_numbered b.program.value b.workers b.deps b.memory.items b.phases.items b.engine b.notices.items b.entries.items b.statuses.items _ _ _ b.posted c.args.rec.now c.task-task.result.0 c.self.invariant.0 c.self.invariant.2
-          (stands_here c.args.self.now b.program.value c.args.prog.now b.workers b.entries.items b.statuses.items b.deps.handed c.args.rec.now c.self.view_is c.requires.same c.requires.stands)
-          c.requires.ended c.task-task.ensures,
-    )
+    let s = shelf_of c.self.inside in
+    let held = c.args.rec.now in
+    let t = c.task-task.result.0 in
+    let at = (goal.at.invariant_of-self c).After-task-task in
+    let d = (stands at).def in
+    let h = here at in
+    let m = ret_moved s held t d c.note.new.list.items _ c.self.invariant.kept h c.note.ensures.items c.note.ensures.places in
+    let changed = ret_changed s held t d c.self.invariant.kept h in
+    record {
+      kept = book_after s _ t d h.was _ _ _ c.self.invariant.kept changed m;
+      counted = ret_counted s held t d _ c.self.invariant h (gone_more s _ t d h.was _ _ _ changed m (rw h.stands.0 refl));
+      numbered = ret_numbered s held t d c.self.invariant h;
+    }
 
 pub returns : goal.returns
 returns c =
-    let b = c.self.inside in
-    ret_makes b.program.value b.workers b.deps b.memory.items b.phases.items b.engine b.notices.items b.entries.items c.note.new.list.items b.statuses.items _ _ _ c.args.rec.now c.go.new.self c.task-task.result.0
-    c.self.invariant.0 (stands_here c.args.self.now b.program.value c.args.prog.now b.workers b.entries.items b.statuses.items b.deps.handed c.args.rec.now c.self.view_is c.requires.same c.requires.stands)
-    c.requires.ended c.task-task.ensures c.note.ensures.items c.go.ensures c.args.self.now c.self.view_is
+    let s = shelf_of c.self.inside in
+    let held = c.args.rec.now in
+    let t = c.task-task.result.0 in
+    let at = (goal.at.returns c).After-task-task in
+    let d = (stands at).def in
+    let h = here at in
+    let m = ret_moved s held t d c.note.new.list.items _ c.self.invariant.kept h c.note.ensures.items c.note.ensures.places in
+    let changed = ret_changed s held t d c.self.invariant.kept h in
+    makes_move s _ held c.go.new.self t d h.was _ _ _ (book_after s _ t d h.was _ _ _ c.self.invariant.kept changed m) changed m h.who h.program
+    (c.go.ensures ∙ sym (left_as s held t d phase.Ended h))
+    (subst (λ (z : Record). StandsAs d z.phase z.copy (returned_task h.was)) (sym c.go.ensures) (refl, h.stands.1)) c.args.self.now c.self.view_is

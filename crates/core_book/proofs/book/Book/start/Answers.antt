@@ -1,47 +1,92 @@
 -- The book after a start, and the record.
-use Rattle.core_book.proofs.BookLemmas.{asked, same_program, same_handed, few_operations, room_at_start, start_invariant, start_makes}
+use Rattle.std.proofs.Common.{◌≡◌, ◌∙◌, ap, sym, slice_get, slice_set, Some, true, refl, arith}
+use Rattle.rt_base.specs.declared.data.Phase.TheVariants as phase
+use Rattle.rt_base.specs.declared.data.Entry.TheVariants as entry
+use Rattle.rt_base.specs.Operations.{task_no}
+use Rattle.rt_base.specs.MayMove.{MayMove}
+use Rattle.task_machine.specs.Machine.{start_move}
+use Rattle.std.specs.Prelude.{vec_capacity}
+use Rattle.core_book.specs.Ledger.{Ledger}
+use Rattle.core_book.specs.Kept.{Shelf, state_now}
+use Rattle.core_book.proofs.Few.{few_operations}
+use Rattle.core_book.proofs.Insides.{shelf_of}
+use Rattle.core_book.proofs.Moved.{IsMoved, book_after, gone_more, makes_move}
+use Rattle.core_book.proofs.Held.{Held, held_at, may_move, room_at, same_program}
+use Rattle.core_book.proofs.BookMoves.{left_as, started_task, start_changed, start_moved, start_left, start_stands}
 use Rattle.core_book.proofs.CountMoves.{start_counted}
 use Rattle.core_book.proofs.Numbers.{start_numbered}
 use Rattle.core_book.proofs.book.Book.start.Goals as goal
+use Rattle.core_book.proofs.book.Book.start.Goals.{After-task_of-def, After-note}
+
+here : (c : After-task_of-def) → Held (shelf_of c.self.inside) c.args.rec.now c.task-task.result.0 c.task_of-def.result.now phase.Waiting
+here c =
+    held_at (shelf_of c.self.inside) c.args.rec.now c.task-task.result.0 c.task_of-def.result.now phase.Waiting c.args.self.now c.args.prog.now
+    c.self.view_is c.requires.same c.requires.stands
+    c.task-task.ensures c.task_of-def.ensures c.requires.fresh
+
+may : (c : After-task_of-def) → MayMove (shelf_of c.self.inside).program (state_now (shelf_of c.self.inside)) c.task-task.result.0
+may c =
+    may_move (shelf_of c.self.inside) c.args.rec.now c.task-task.result.0 c.args.self.now c.args.prog.now c.self.view_is c.requires.same c.requires.enabled
+    c.task-task.ensures
+
+-- the task was handed out
+mine : (c : After-task_of-def) → slice_get (shelf_of c.self.inside).ready.handed c.task-task.result.0 ≡ Some true
+mine c =
+    ap (λ (z : Ledger). slice_get z.handed c.task-task.result.0) c.self.view_is ∙ ap (slice_get c.args.self.now.handed) c.task-task.ensures ∙ c.requires.handed
+
+-- the insides after the start
+abbrev later : (c : After-note) → Shelf
+later c = record (shelf_of c.self.inside) {
+  phases = slice_set c.self.inside.phases.items c.task-task.result.0 c.stop.result;
+  entries = c.note.new.list.items;
+  entry_places = vec_capacity c.note.new.list;
+}
+
+moved : (c : After-note) → (h : Held (shelf_of c.self.inside) c.args.rec.now c.task-task.result.0 c.task_of-def.result.now phase.Waiting)
+    → slice_get (shelf_of c.self.inside).ready.handed c.task-task.result.0 ≡ Some true
+    → IsMoved (shelf_of c.self.inside) (later c) c.task-task.result.0 (started_task (shelf_of c.self.inside) c.task_of-def.result.now h.was)
+    (start_move (shelf_of c.self.inside).program (state_now (shelf_of c.self.inside)) c.task-task.result.0 c.task_of-def.result.now h.was).state
+    (entry.Start (task_no c.task-task.result.0))
+moved c h handed =
+    start_moved (shelf_of c.self.inside) c.args.rec.now c.task-task.result.0 c.task_of-def.result.now c.stop.result c.note.new.list.items _
+    c.self.invariant.kept h handed
+    c.stop.ensures c.note.ensures.items c.note.ensures.places
 
 pub stop-requires-clause-few : goal.stop-requires-clause-few
 stop-requires-clause-few c = few_operations c.args.prog.now c.task-task.result.0 c.task_of-def.result.now c.requires.well_formed c.task_of-def.ensures
 
 pub note-requires : goal.note-requires
 note-requires c =
-    let b = c.self.inside in
-    room_at_start b.program.value b.workers b.deps b.memory.items b.phases.items b.engine b.notices.items b.entries.items b.statuses.items _ _ _ c.args.rec.now c.self.invariant.0
-    (asked c.args.self.now b.program.value c.args.prog.now b.workers b.entries.items b.statuses.items b.deps.handed c.args.rec.now c.self.view_is c.requires.same c.requires.stands c.requires.enabled)
-    c.requires.fresh
+    let h = here (goal.at.note-requires c).After-task_of-def in
+    (room_at (shelf_of c.self.inside) c.args.rec.now c.task-task.result.0 c.task_of-def.result.now phase.Waiting phase.Waiting c.self.invariant.kept h
+    h.stands (omega arith)).0
 
 pub invariant_of-self : goal.invariant_of-self
 invariant_of-self c =
-    let b = c.self.inside in
-    let l = c.args.self.now in (
-      start_invariant b.program.value c.args.prog.now b.workers b.deps b.memory.items b.phases.items b.engine b.notices.items b.entries.items c.note.new.list.items b.statuses.items _ _ _ _
-          c.args.rec.now c.task-task.result.0 c.task_of-def.result.now c.stop.result c.self.invariant.0
-          (same_program l b.program.value c.args.prog.now b.workers b.entries.items b.statuses.items b.deps.handed c.self.view_is c.requires.same)
-          (asked l b.program.value c.args.prog.now b.workers b.entries.items b.statuses.items b.deps.handed c.args.rec.now c.self.view_is c.requires.same c.requires.stands c.requires.enabled)
-          (same_handed l b.program.value b.workers b.entries.items b.statuses.items b.deps.handed c.args.rec.now.task c.self.view_is c.requires.handed)
-          c.requires.fresh c.task-task.ensures c.task_of-def.ensures c.stop.ensures c.note.ensures.items c.note.ensures.places,
-      start_counted b.program.value b.workers b.deps b.memory.items b.phases.items b.engine b.notices.items b.entries.items b.statuses.items _ _ _ b.held b.waits c.args.rec.now c.task-task.result.0 c.task_of-def.result.now c.stop.result
-          c.self.invariant.0 c.self.invariant.1
-          (asked l b.program.value c.args.prog.now b.workers b.entries.items b.statuses.items b.deps.handed c.args.rec.now c.self.view_is c.requires.same c.requires.stands c.requires.enabled)
-          (same_handed l b.program.value b.workers b.entries.items b.statuses.items b.deps.handed c.args.rec.now.task c.self.view_is c.requires.handed)
-          c.requires.fresh c.task-task.ensures c.stop.ensures,
-      start_numbered b.program.value c.args.prog.now b.workers b.deps b.memory.items b.phases.items b.engine b.notices.items b.entries.items b.statuses.items _ _ _ b.posted c.args.rec.now c.task-task.result.0 c.task_of-def.result.now c.stop.result
-          c.self.invariant.0 c.self.invariant.2
-          (same_program l b.program.value c.args.prog.now b.workers b.entries.items b.statuses.items b.deps.handed c.self.view_is c.requires.same)
-          (asked l b.program.value c.args.prog.now b.workers b.entries.items b.statuses.items b.deps.handed c.args.rec.now c.self.view_is c.requires.same c.requires.stands c.requires.enabled)
-          c.requires.fresh c.task-task.ensures c.task_of-def.ensures c.stop.ensures,
-    )
+    let s = shelf_of c.self.inside in
+    let t = c.task-task.result.0 in
+    let d = c.task_of-def.result.now in
+    let at = (goal.at.invariant_of-self c).After-task_of-def in
+    let h = here at in
+    let m = moved (goal.at.invariant_of-self c).After-note h (mine at) in
+    let changed = start_changed s c.args.rec.now t d c.self.invariant.kept h (may at) in
+    record {
+      kept = book_after s _ t d h.was _ _ _ c.self.invariant.kept changed m;
+      counted = start_counted s c.args.rec.now t d c.stop.result _ c.self.invariant h (mine at) c.stop.ensures
+          (gone_more s _ t d h.was _ _ _ changed m (rw h.stands refl));
+      numbered = start_numbered s c.args.rec.now t d c.stop.result c.self.invariant h c.stop.ensures;
+    }
 
 pub returns : goal.returns
 returns c =
-    let b = c.self.inside in
-    let l = c.args.self.now in
-    start_makes b.program.value c.args.prog.now b.workers b.deps b.memory.items b.phases.items b.engine b.notices.items b.entries.items c.note.new.list.items b.statuses.items _ _ _
-    c.args.rec.now c.load.new.self c.go.new.self c.task-task.result.0 c.task_of-def.result.now c.phase_before.result c.deref.result.now c.self.invariant.0
-    (same_program l b.program.value c.args.prog.now b.workers b.entries.items b.statuses.items b.deps.handed c.self.view_is c.requires.same)
-    (asked l b.program.value c.args.prog.now b.workers b.entries.items b.statuses.items b.deps.handed c.args.rec.now c.self.view_is c.requires.same c.requires.stands c.requires.enabled)
-    c.requires.fresh c.task-task.ensures c.task_of-def.ensures c.note.ensures.items c.deref.ensures.value c.load.ensures c.phase_before.ensures c.go.ensures l c.self.view_is
+    let s = shelf_of c.self.inside in
+    let t = c.task-task.result.0 in
+    let d = c.task_of-def.result.now in
+    let at = (goal.at.returns c).After-task_of-def in
+    let h = here at in
+    let m = moved (goal.at.returns c).After-note h (mine at) in
+    let changed = start_changed s c.args.rec.now t d c.self.invariant.kept h (may at) in
+    let left = start_left s c.args.rec.now c.load.new.self c.go.new.self t d c.phase_before.result c.deref.result.now c.args.prog.now c.self.invariant.kept h
+    (same_program s c.args.self.now c.args.prog.now c.self.view_is c.requires.same) c.deref.ensures.value c.load.ensures c.phase_before.ensures c.go.ensures in
+    makes_move s _ c.args.rec.now c.go.new.self t d h.was _ _ _ (book_after s _ t d h.was _ _ _ c.self.invariant.kept changed m) changed m h.who h.program
+    (left ∙ sym (left_as s c.args.rec.now t d phase.Waiting h)) (start_stands s c.args.rec.now c.go.new.self d h.was left) c.args.self.now c.self.view_is

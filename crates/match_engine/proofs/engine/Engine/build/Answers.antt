@@ -1,6 +1,6 @@
 use Rattle.std.proofs.Common.{refl, sym, subst}
 use Rattle.rt_base.specs.declared.data.Program.{Program}
-use Rattle.match_engine.specs.Kept.{IsKept}
+use Rattle.match_engine.specs.Kept.{KeepsExchange}
 use Rattle.match_engine.proofs.Replies.{slots_counted, kept_at_start}
 use Rattle.match_engine.proofs.engine.Engine.build.Goals as goal
 
@@ -9,6 +9,6 @@ build-requires-2 c = slots_counted c.args.prog.now _ c.requires c.in_ok-slots.en
 
 pub invariant_of-result : goal.invariant_of-result
 invariant_of-result c =
-    subst (λ (p : Program). IsKept p c.args.prog.now.eager c.in_ok-build.field-0 c.in_ok-slots.slots) (sym c.of.ensures)
+    subst (λ (p : Program). KeepsExchange p c.args.prog.now.eager c.in_ok-build.field-0 c.in_ok-slots.slots) (sym c.of.ensures)
     (kept_at_start c.args.prog.now c.args.prog.now.eager c.in_ok-build.field-0 c.in_ok-slots.slots c.requires refl c.in_ok-slots.ensures
     c.in_ok-build.ensures.exchange c.in_ok-build.ensures.posted c.in_ok-build.ensures.matches c.in_ok-build.ensures.queues)

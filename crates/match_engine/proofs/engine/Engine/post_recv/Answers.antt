@@ -4,43 +4,56 @@ use Rattle.match_engine.proofs.engine.Engine.post_recv.Goals as goal
 
 pub post_receive-partner-requires-clause-room : goal.post_receive-partner-requires-clause-room
 post_receive-partner-requires-clause-room c =
-    let found = finds_receive c.self.inside.program.value c.self.inside.eager c.self.inside.exchange c.self.inside.slots c.args.req c.get-slot.result c.args.self.now c.self.invariant c.self.view_is
+    let found = finds_receive c.self.inside.program.value c.self.inside.eager c.self.inside.exchange c.self.inside.slots c.args.req c.get-slot.result
+    c.args.self.now c.self.invariant c.self.view_is
     c.get-slot.ensures c.requires.new c.requires.receive in
     room_for c.self.inside.program.value c.self.inside.eager c.self.inside.exchange c.self.inside.slots c.args.req c.get-slot.result [] _ found
 
 pub settle-requires-clause-partner : goal.settle-requires-clause-partner
 settle-requires-clause-partner c =
-    let found = finds_receive c.self.inside.program.value c.self.inside.eager c.self.inside.exchange c.self.inside.slots c.args.req c.get-slot.result c.args.self.now c.self.invariant c.self.view_is
+    let found = finds_receive c.self.inside.program.value c.self.inside.eager c.self.inside.exchange c.self.inside.slots c.args.req c.get-slot.result
+    c.args.self.now c.self.invariant c.self.view_is
     c.get-slot.ensures c.requires.new c.requires.receive in
-    partner_slot c.self.inside.program.value c.self.inside.eager c.self.inside.exchange c.self.inside.slots c.args.req c.get-slot.result [] _ c.post_receive-partner.result found c.post_receive-partner.ensures.partner
+    partner_slot c.self.inside.program.value c.self.inside.eager c.self.inside.exchange c.self.inside.slots c.args.req c.get-slot.result [] _
+    c.post_receive-partner.result found c.post_receive-partner.ensures.partner
 
 pub invariant_of-self : goal.invariant_of-self
 invariant_of-self c =
-    let found = finds_receive c.self.inside.program.value c.self.inside.eager c.self.inside.exchange c.self.inside.slots c.args.req c.get-slot.result c.args.self.now c.self.invariant c.self.view_is
+    let found = finds_receive c.self.inside.program.value c.self.inside.eager c.self.inside.exchange c.self.inside.slots c.args.req c.get-slot.result
+    c.args.self.now c.self.invariant c.self.view_is
     c.get-slot.ensures c.requires.new c.requires.receive in
-    kept_for c.self.inside.program.value c.self.inside.eager c.self.inside.exchange c.post_receive-partner.new.self c.self.inside.slots c.settle.new.self c.args.req c.get-slot.result [] _ c.post_receive-partner.result c.matched-place.result found c.post_receive-partner.ensures.exchange
+    kept_for c.self.inside.program.value c.self.inside.eager c.self.inside.exchange c.post_receive-partner.new.self c.self.inside.slots c.settle.new.self
+    c.args.req c.get-slot.result [] _ c.post_receive-partner.result c.matched-place.result found c.post_receive-partner.ensures.exchange
     c.post_receive-partner.ensures.room c.post_receive-partner.ensures.partner c.matched-place.ensures c.settle.ensures
 
 pub returns-clause-exchange : goal.returns-clause-exchange
 returns-clause-exchange c =
-    let found = finds_receive c.self.inside.program.value c.self.inside.eager c.self.inside.exchange c.self.inside.slots c.args.req c.get-slot.result c.args.self.now c.self.invariant c.self.view_is
+    let found = finds_receive c.self.inside.program.value c.self.inside.eager c.self.inside.exchange c.self.inside.slots c.args.req c.get-slot.result
+    c.args.self.now c.self.invariant c.self.view_is
     c.get-slot.ensures c.requires.new c.requires.receive in
-    exchange_for c.self.inside.program.value c.self.inside.eager c.self.inside.exchange c.post_receive-partner.new.self c.self.inside.slots c.args.req c.get-slot.result [] _ c.args.self.now found c.self.view_is c.post_receive-partner.ensures.exchange
+    exchange_for c.self.inside.program.value c.self.inside.eager c.self.inside.exchange c.post_receive-partner.new.self c.self.inside.slots c.args.req
+    c.get-slot.result [] _ c.args.self.now found c.self.view_is c.post_receive-partner.ensures.exchange
 
 pub returns-clause-partner : goal.returns-clause-partner
 returns-clause-partner c =
-    let found = finds_receive c.self.inside.program.value c.self.inside.eager c.self.inside.exchange c.self.inside.slots c.args.req c.get-slot.result c.args.self.now c.self.invariant c.self.view_is
+    let found = finds_receive c.self.inside.program.value c.self.inside.eager c.self.inside.exchange c.self.inside.slots c.args.req c.get-slot.result
+    c.args.self.now c.self.invariant c.self.view_is
     c.get-slot.ensures c.requires.new c.requires.receive in
-    partner_for c.self.inside.program.value c.self.inside.eager c.self.inside.exchange c.self.inside.slots c.args.req c.get-slot.result [] _ c.post_receive-partner.result c.args.self.now found c.self.view_is c.post_receive-partner.ensures.partner
+    partner_for c.self.inside.program.value c.self.inside.eager c.self.inside.exchange c.self.inside.slots c.args.req c.get-slot.result [] _
+    c.post_receive-partner.result c.args.self.now found c.self.view_is c.post_receive-partner.ensures.partner
 
 pub returns-clause-before : goal.returns-clause-before
 returns-clause-before c =
-    let found = finds_receive c.self.inside.program.value c.self.inside.eager c.self.inside.exchange c.self.inside.slots c.args.req c.get-slot.result c.args.self.now c.self.invariant c.self.view_is
+    let found = finds_receive c.self.inside.program.value c.self.inside.eager c.self.inside.exchange c.self.inside.slots c.args.req c.get-slot.result
+    c.args.self.now c.self.invariant c.self.view_is
     c.get-slot.ensures c.requires.new c.requires.receive in
-    before_for c.self.inside.program.value c.self.inside.eager c.self.inside.exchange c.self.inside.slots c.args.req c.get-slot.result [] _ c.post_receive-partner.result c.args.self.now found c.self.view_is c.post_receive-partner.ensures.partner
+    before_for c.self.inside.program.value c.self.inside.eager c.self.inside.exchange c.self.inside.slots c.args.req c.get-slot.result [] _
+    c.post_receive-partner.result c.args.self.now found c.self.view_is c.post_receive-partner.ensures.partner
 
 pub returns-clause-completed : goal.returns-clause-completed
 returns-clause-completed c =
-    let found = finds_receive c.self.inside.program.value c.self.inside.eager c.self.inside.exchange c.self.inside.slots c.args.req c.get-slot.result c.args.self.now c.self.invariant c.self.view_is
+    let found = finds_receive c.self.inside.program.value c.self.inside.eager c.self.inside.exchange c.self.inside.slots c.args.req c.get-slot.result
+    c.args.self.now c.self.invariant c.self.view_is
     c.get-slot.ensures c.requires.new c.requires.receive in
-    completed_for c.self.inside.program.value c.self.inside.eager c.self.inside.exchange c.post_receive-partner.new.self c.self.inside.slots c.args.req c.get-slot.result [] _ c.post_receive-partner.result found c.post_receive-partner.ensures.exchange c.post_receive-partner.ensures.partner
+    completed_for c.self.inside.program.value c.self.inside.eager c.self.inside.exchange c.post_receive-partner.new.self c.self.inside.slots c.args.req
+    c.get-slot.result [] _ c.post_receive-partner.result found c.post_receive-partner.ensures.exchange c.post_receive-partner.ensures.partner

@@ -5,12 +5,14 @@ use Rattle.match_engine.proofs.exchange.Exchange.receive.Goals as goal
 
 pub returns-in_err-made-clause-exchange : goal.returns-in_err-made-clause-exchange
 returns-in_err-made-clause-exchange c =
-    exchange_asked _ _ c.args.at _ c.args.wish c.index_mut.result.now c.receive.new.self _ _ c.self.view_is c.wish.view_is c.requires.rank c.index_mut.ensures.value
+    exchange_asked _ _ c.args.at _ c.args.wish c.index_mut.result.now c.receive.new.self _ _ c.self.view_is c.wish.view_is c.requires.rank
+    c.index_mut.ensures.value
     c.in_err-made.ensures.lists c.note.ensures.items (no_match _ _ c.in_err-made.ensures.made)
 
 pub returns-clause-exchange : goal.returns-clause-exchange
 returns-clause-exchange c =
-    exchange_asked _ _ c.args.at _ c.args.wish c.index_mut.result.now c.receive.new.self _ _ c.self.view_is c.wish.view_is c.requires.rank c.index_mut.ensures.value
+    exchange_asked _ _ c.args.at _ c.args.wish c.index_mut.result.now c.receive.new.self _ _ c.self.view_is c.wish.view_is c.requires.rank
+    c.index_mut.ensures.value
     c.in_ok-made.ensures.lists c.note.ensures.items (one_match _ _ _ _ c.in_ok-made.ensures.made c.note-2.ensures.items)
 
 pub returns-in_err-made-clause-room : goal.returns-in_err-made-clause-room
@@ -25,4 +27,7 @@ returns-clause-room c =
 
 pub receive-requires : goal.receive-requires
 receive-requires c =
-    record { room = room_here _ _ c.args.at c.index_mut.result.now (Asked c.args.at c.args.wish) c.self.view_is c.requires.rank c.index_mut.ensures.value (here_taken c.args.at) c.requires.room }
+    record {
+      room = room_here _ _ c.args.at c.index_mut.result.now (Asked c.args.at c.args.wish) c.self.view_is c.requires.rank c.index_mut.ensures.value
+          (here_taken c.args.at) c.requires.room;
+    }

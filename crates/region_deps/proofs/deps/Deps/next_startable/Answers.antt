@@ -21,7 +21,8 @@ pub invariant_of-self-2 : goal.invariant_of-self-2
 invariant_of-self-2 c =
     let i = c.self.inside in
     let e = c.in_ok-task.ensures in
-    held_next i.program.value.tasks.items i.graph c.next.new.self i.first.items i.heads.items i.waiting.items i.released.items c.in_ok-task.task c.self.invariant e.open e.links e.gone e.handed
+    held_next i.program.value.tasks.items i.graph c.next.new.self i.first.items i.heads.items i.waiting.items i.released.items c.in_ok-task.task
+    c.self.invariant e.open e.links e.gone e.handed
 
 pub returns-clause-startable : goal.returns-clause-startable
 returns-clause-startable c =
@@ -29,5 +30,8 @@ returns-clause-startable c =
     let open_now = c.in_ok-task.ensures.open in
     let exists : c.in_ok-task.task < length i.program.value.tasks.items =
     omega (arith, slice_get_within i.graph.handed c.in_ok-task.task false open_now.waits, c.self.invariant.handed_long) in
-    subst (λ (r : Readiness). IsStartable r c.in_ok-task.task) c.self.view_is
-    (open_now.waits, starts_if_let_in i.program.value i.graph i.first.items i.heads.items i.waiting.items i.released.items c.self.invariant c.in_ok-task.task exists open_now.let_in)
+    subst (λ (r : Readiness). IsStartable r c.in_ok-task.task) c.self.view_is (
+      open_now.waits,
+      starts_if_let_in i.program.value i.graph i.first.items i.heads.items i.waiting.items i.released.items c.self.invariant c.in_ok-task.task
+          exists open_now.let_in,
+    )

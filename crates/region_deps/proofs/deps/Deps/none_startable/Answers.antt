@@ -14,6 +14,11 @@ returns c =
         let_in = let_in_if_starts i.program.value i.graph i.first.items i.heads.items i.waiting.items i.released.items c.self.invariant t here.1;
       }),
       λ none. c.none_open.ensures.1 (λ t here.
-          let exists : t < length i.program.value.tasks.items = omega (arith, slice_get_within i.graph.handed t false here.waits, c.self.invariant.handed_long) in
-          none t (here.waits, starts_if_let_in i.program.value i.graph i.first.items i.heads.items i.waiting.items i.released.items c.self.invariant t exists here.let_in)),
+          let exists : t < length i.program.value.tasks.items =
+          omega (arith, slice_get_within i.graph.handed t false here.waits, c.self.invariant.handed_long) in
+          none t (
+            here.waits,
+            starts_if_let_in i.program.value i.graph i.first.items i.heads.items i.waiting.items i.released.items c.self.invariant t exists
+                here.let_in,
+          )),
     )

@@ -8,21 +8,24 @@ pub all_go-requires-clause-order : goal.all_go-requires-clause-order
 all_go-requires-clause-order c =
     let i = c.self.inside in
     let held = subst (λ (r : Readiness). slice_get r.gone.released c.args.task.0 ≡ Some false) (sym c.self.view_is) c.requires.held in
-    let range = range_read i.program.value.tasks.items i.graph i.first.items i.heads.items i.waiting.items i.released.items c.args.task.0 c.index-from.result.now c.index-to.result.now c.self.invariant held c.index-from.ensures c.index-to.ensures in
+    let range = range_read i.program.value.tasks.items i.graph i.first.items i.heads.items i.waiting.items i.released.items c.args.task.0
+    c.index-from.result.now c.index-to.result.now c.self.invariant held c.index-from.ensures c.index-to.ensures in
     range.order
 
 pub all_go-requires-clause-within : goal.all_go-requires-clause-within
 all_go-requires-clause-within c =
     let i = c.self.inside in
     let held = subst (λ (r : Readiness). slice_get r.gone.released c.args.task.0 ≡ Some false) (sym c.self.view_is) c.requires.held in
-    let range = range_read i.program.value.tasks.items i.graph i.first.items i.heads.items i.waiting.items i.released.items c.args.task.0 c.index-from.result.now c.index-to.result.now c.self.invariant held c.index-from.ensures c.index-to.ensures in
+    let range = range_read i.program.value.tasks.items i.graph i.first.items i.heads.items i.waiting.items i.released.items c.args.task.0
+    c.index-from.result.now c.index-to.result.now c.self.invariant held c.index-from.ensures c.index-to.ensures in
     range.within
 
 pub all_go-requires-clause-numbered : goal.all_go-requires-clause-numbered
 all_go-requires-clause-numbered c =
     let i = c.self.inside in
     let held = subst (λ (r : Readiness). slice_get r.gone.released c.args.task.0 ≡ Some false) (sym c.self.view_is) c.requires.held in
-    let range = range_read i.program.value.tasks.items i.graph i.first.items i.heads.items i.waiting.items i.released.items c.args.task.0 c.index-from.result.now c.index-to.result.now c.self.invariant held c.index-from.ensures c.index-to.ensures in
+    let range = range_read i.program.value.tasks.items i.graph i.first.items i.heads.items i.waiting.items i.released.items c.args.task.0
+    c.index-from.result.now c.index-to.result.now c.self.invariant held c.index-from.ensures c.index-to.ensures in
     range.numbered
 
 pub index-requires : goal.index-requires
@@ -37,7 +40,8 @@ one_less-requires-clause-known c =
     let i = c.self.inside in
     let held = subst (λ (r : Readiness). slice_get r.gone.released c.args.task.0 ≡ Some false) (sym c.self.view_is) c.requires.held in
     let many : c.len.result ≡ length i.heads.items = omega (arith, c.len.ensures, i.heads.ok) in
-    let group = group_of i.program.value.tasks.items i.graph i.first.items i.heads.items i.waiting.items i.released.items c.args.task.0 c.len.result c.index-accesses.result.now c.index.result.now c.self.invariant held many c.index-accesses.ensures c.index.ensures in
+    let group = group_of i.program.value.tasks.items i.graph i.first.items i.heads.items i.waiting.items i.released.items c.args.task.0 c.len.result
+    c.index-accesses.result.now c.index.result.now c.self.invariant held many c.index-accesses.ensures c.index.ensures in
     group.known
 
 pub one_less-requires-clause-held : goal.one_less-requires-clause-held
@@ -45,7 +49,8 @@ one_less-requires-clause-held c =
     let i = c.self.inside in
     let held = subst (λ (r : Readiness). slice_get r.gone.released c.args.task.0 ≡ Some false) (sym c.self.view_is) c.requires.held in
     let many : c.len.result ≡ length i.heads.items = omega (arith, c.len.ensures, i.heads.ok) in
-    let group = group_of i.program.value.tasks.items i.graph i.first.items i.heads.items i.waiting.items i.released.items c.args.task.0 c.len.result c.index-accesses.result.now c.index.result.now c.self.invariant held many c.index-accesses.ensures c.index.ensures in
+    let group = group_of i.program.value.tasks.items i.graph i.first.items i.heads.items i.waiting.items i.released.items c.args.task.0 c.len.result
+    c.index-accesses.result.now c.index.result.now c.self.invariant held many c.index-accesses.ensures c.index.ensures in
     group.held
 
 pub one_less-requires-clause-within : goal.one_less-requires-clause-within
@@ -53,7 +58,8 @@ one_less-requires-clause-within c =
     let i = c.self.inside in
     let held = subst (λ (r : Readiness). slice_get r.gone.released c.args.task.0 ≡ Some false) (sym c.self.view_is) c.requires.held in
     let many : c.len.result ≡ length i.heads.items = omega (arith, c.len.ensures, i.heads.ok) in
-    let group = group_of i.program.value.tasks.items i.graph i.first.items i.heads.items i.waiting.items i.released.items c.args.task.0 c.len.result c.index-accesses.result.now c.index.result.now c.self.invariant held many c.index-accesses.ensures c.index.ensures in
+    let group = group_of i.program.value.tasks.items i.graph i.first.items i.heads.items i.waiting.items i.released.items c.args.task.0 c.len.result
+    c.index-accesses.result.now c.index.result.now c.self.invariant held many c.index-accesses.ensures c.index.ensures in
     omega (arith, group.within, c.all_go.ensures.long)
 
 pub one_less-requires-clause-numbered : goal.one_less-requires-clause-numbered
@@ -75,8 +81,12 @@ invariant_of-self c =
     let i = c.self.inside in
     let held = subst (λ (r : Readiness). slice_get r.gone.released c.args.task.0 ≡ Some false) (sym c.self.view_is) c.requires.held in
     let handed = subst (λ (r : Readiness). slice_get r.handed c.args.task.0 ≡ Some true) (sym c.self.view_is) c.requires.handed in
-    let range = range_read i.program.value.tasks.items i.graph i.first.items i.heads.items i.waiting.items i.released.items c.args.task.0 c.index-from.result.now c.index-to.result.now c.self.invariant held c.index-from.ensures c.index-to.ensures in
+    let range = range_read i.program.value.tasks.items i.graph i.first.items i.heads.items i.waiting.items i.released.items c.args.task.0
+    c.index-from.result.now c.index-to.result.now c.self.invariant held c.index-from.ensures c.index-to.ensures in
     let many : c.len.result ≡ length i.heads.items = omega (arith, c.len.ensures, i.heads.ok) in
-    let group = group_of i.program.value.tasks.items i.graph i.first.items i.heads.items i.waiting.items i.released.items c.args.task.0 c.len.result c.index-accesses.result.now c.index.result.now c.self.invariant held many c.index-accesses.ensures c.index.ensures in
-    held_release_read i.program.value.tasks.items i.graph c.all_go.new.graph c.one_less.new.graph i.first.items i.heads.items i.waiting.items c.one_less.new.waiting.items i.released.items c.args.task.0
-    c.index-from.result.now c.index-to.result.now c.index-accesses.result.now c.index.result.now c.self.invariant handed held range group c.all_go.ensures c.one_less.ensures.gone c.one_less.ensures.waiting
+    let group = group_of i.program.value.tasks.items i.graph i.first.items i.heads.items i.waiting.items i.released.items c.args.task.0 c.len.result
+    c.index-accesses.result.now c.index.result.now c.self.invariant held many c.index-accesses.ensures c.index.ensures in
+    held_release_read i.program.value.tasks.items i.graph c.all_go.new.graph c.one_less.new.graph i.first.items i.heads.items i.waiting.items
+    c.one_less.new.waiting.items i.released.items c.args.task.0
+    c.index-from.result.now c.index-to.result.now c.index-accesses.result.now c.index.result.now c.self.invariant handed held range group c.all_go.ensures
+    c.one_less.ensures.gone c.one_less.ensures.waiting

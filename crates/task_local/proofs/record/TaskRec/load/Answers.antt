@@ -4,9 +4,11 @@ use Rattle.task_local.proofs.record.TaskRec.load.Goals as goal
 pub load_regions-requires-clause-inside : goal.load_regions-requires-clause-inside
 load_regions-requires-clause-inside c =
     let same = rw (← c.self.view_is) at c.requires.same in
-    rw c.as_slice.ensures (record_lies c.args.prog.now c.self.inside.program.value c.self.inside.task.0 c.task_def-def.result.now c.self.invariant.task c.self.inside.regions
+    rw c.as_slice.ensures (record_lies c.args.prog.now c.self.inside.program.value c.self.inside.task.0 c.task_def-def.result.now c.self.invariant.task
+    c.self.inside.regions
     c.requires.well_formed same c.task_def-def.ensures c.self.invariant.is_task c.self.invariant.ordered_regions)
 
 pub load_regions-requires-clause-copy : goal.load_regions-requires-clause-copy
 load_regions-requires-clause-copy c =
-    rw (c.as_slice.ensures, c.deref_mut.ensures.value) (record_cells c.self.invariant.task c.self.inside.regions _ c.self.invariant.ordered_regions c.self.invariant.cells)
+    rw (c.as_slice.ensures, c.deref_mut.ensures.value) (record_cells c.self.invariant.task c.self.inside.regions _ c.self.invariant.ordered_regions
+    c.self.invariant.cells)

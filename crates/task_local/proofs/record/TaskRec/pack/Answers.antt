@@ -12,7 +12,8 @@ sent_cells-requires c =
     let same = rw (← c.self.view_is) at c.requires.same in
     rw c.deref.ensures.value
     (record {
-      fits = record_sends c.args.prog.now c.self.inside.program.value c.self.inside.task.0 c.task_def-def.result.now c.self.invariant.task c.self.inside.regions _
+      fits = record_sends c.args.prog.now c.self.inside.program.value c.self.inside.task.0 c.task_def-def.result.now c.self.invariant.task
+          c.self.inside.regions _
           c.in-At.k c.operation.result.now c.requires.well_formed same c.task_def-def.ensures c.self.invariant.is_task c.self.invariant.ordered_regions
           c.self.invariant.cells c.operation.ensures;
     })

@@ -16,7 +16,8 @@ run_from-self-inside-requires-clause-can c =
     let same = rw (← c.self.view_is) at c.requires.same in
     rw (c.deref_mut.ensures.value, c.deref_mut-in-At.ensures.value)
     (record_can_run c.args.prog.now c.self.inside.program.value c.self.inside.task.0 c.task_def-def.result.now c.self.invariant.task c.self.inside.regions _ _
-    c.requires.well_formed same c.task_def-def.ensures c.self.invariant.is_task c.self.invariant.ordered_regions c.self.invariant.cells c.self.invariant.room.enough)
+    c.requires.well_formed same c.task_def-def.ensures c.self.invariant.is_task c.self.invariant.ordered_regions c.self.invariant.cells
+    c.self.invariant.room.enough)
 
 pub invariant_of-self : goal.invariant_of-self
 invariant_of-self c =
@@ -28,7 +29,8 @@ invariant_of-self c =
     let within : c.in-At.k < length task.body.items = subst (IsPhaseOf task) c.in-At.is c.self.invariant.place in
     let ran = c.run_from-self-inside in
     let copy = take_at ran.new.copy (drop (length ran.new.copy) c.self.inside.copy.items) c.self.inside.copy.len (ran.auto.copy ∙ c.deref_mut.ensures.len) in
-    let scratch = take_at ran.new.scratch (drop (length ran.new.scratch) c.self.inside.scratch.items) c.self.inside.scratch.len (ran.auto.scratch ∙ c.deref_mut-in-At.ensures.len) in
+    let scratch = take_at ran.new.scratch (drop (length ran.new.scratch) c.self.inside.scratch.items) c.self.inside.scratch.len (ran.auto.scratch
+    ∙ c.deref_mut-in-At.ensures.len) in
     record {
       task = task;
       is_task = c.self.invariant.is_task;
@@ -45,7 +47,8 @@ returns-in-At c =
     let inside = c.self.inside in
     let ran = c.run_from-self-inside in
     let copied : List ℤ = take inside.copy.len (ran.new.copy ++ drop (length ran.new.copy) inside.copy.items) in
-    let copy : copied ≡ ran.new.copy = take_at ran.new.copy (drop (length ran.new.copy) inside.copy.items) inside.copy.len (ran.auto.copy ∙ c.deref_mut.ensures.len) in
+    let copy : copied ≡ ran.new.copy = take_at ran.new.copy (drop (length ran.new.copy) inside.copy.items) inside.copy.len (ran.auto.copy
+    ∙ c.deref_mut.ensures.len) in
     let held : Record = record { program = inside.program.value; task = inside.task.0; phase = inside.phase; copy = inside.copy.items } in
     let after : Record = record { program = inside.program.value; task = inside.task.0; phase = ran.result; copy = copied } in
     let front = λ (cells : List ℤ). run_front c.task_def-def.result.now (drop c.in-At.k c.task_def-def.result.now.body.items) cells in

@@ -8,4 +8,5 @@ pub returns-clause-before : goal.returns-clause-before
 returns-clause-before c =
     let was = c.self.inside in
     added was.log c.add_place.new.self was.mark was.names.entries c.insert.new.self.entries c.args.self.now.before c.args.name c.args.meaning
-    c.add_place.ensures c.in_ok-insert.ensures.entries (ap (λ s. lookup (bytes_eq c.args.name) s.names) c.self.view_is ∙ c.requires) c.self.invariant (ap (λ s. s.before) c.self.view_is)
+    c.add_place.ensures c.in_ok-insert.ensures.entries (ap (λ s. lookup (bytes_eq c.args.name) s.names) c.self.view_is
+    ∙ c.requires) c.self.invariant (ap (λ s. s.before) c.self.view_is)

@@ -18,4 +18,5 @@ loop-e-preserved c =
     let below = c.loop-e-test.true in
     let is = c.e-item.is in
     subst (λ (done : List ℤ). IsGathered (value (scene s)) c.args.es.now (c.loop-e.e-index + 1) done (values_of s c.args.es.now)) (sym items)
-    (next_gathered (value (scene s)) c.args.es.now c.loop-e.e-index c.loop-e.values.items (values_of s c.args.es.now) c.args.line c.e-item.result x c.loop-e.invariant below is gives)
+    (next_gathered (value (scene s)) c.args.es.now c.loop-e.e-index c.loop-e.values.items (values_of s c.args.es.now) c.args.line c.e-item.result x
+    c.loop-e.invariant below is gives)

@@ -5,4 +5,5 @@ use Rattle.rt_base.specs.Spans.{Overlaps}
 use Rattle.region_deps.proofs.deps.tests.orderly.are_apart.Given as goal
 
 abbrev pub invariant-loop-one : goal.invariant-loop-one
-invariant-loop-one l = (i j : ℕ) (d : Access) → i < l.one → i < j → j < length l.accesses → ¬ Overlaps (slice_index_or l.accesses i d).span (slice_index_or l.accesses j d).span
+invariant-loop-one l = (i j : ℕ) (d : Access) → i < l.one → i < j → j < length l.accesses
+    → ¬ Overlaps (slice_index_or l.accesses i d).span (slice_index_or l.accesses j d).span

@@ -1,0 +1,136 @@
+-- The task of a record, as the caller, the book and the machine's state have it.
+use Rattle.std.proofs.Common.{◌≡◌, ◌≢◌, ℕ, ◌<◌, ◌≤◌, Bool, true, false, List, length, drop, slice_get, Some, Option, refl, sym, ap, ◌∙◌, subst, cond, ltb, arith}
+use Rattle.std.specs.Prelude.{ℤ, unwrap_or}
+use Rattle.std.proofs.lemmas.Option.{slice_get_within}
+use Rattle.std.proofs.lemmas.List.{length-map}
+use Rattle.std.proofs.lemmas.Bool.{ltb-false}
+use Rattle.rt_base.specs.declared.data.Phase.{Phase}
+use Rattle.rt_base.specs.declared.data.Phase.TheVariants as phase
+use Rattle.rt_base.specs.declared.data.Op.{Op}
+use Rattle.rt_base.specs.declared.data.TaskDef.{TaskDef}
+use Rattle.rt_base.specs.declared.data.Program.{Program}
+use Rattle.rt_base.specs.declared.data.Entry.{Entry}
+use Rattle.rt_base.specs.State.{Task, is_released}
+use Rattle.rt_base.specs.MayMove.{MayMove}
+use Rattle.task_local.specs.Local.{advanced, stop, run_front}
+use Rattle.task_local.specs.Standing.{phase_before, def_of, no_task}
+use Rattle.task_local.specs.StandsFor.{Record, StandsFor, StandsAs}
+use Rattle.task_machine.specs.Legal.{final}
+use Rattle.task_machine.specs.Course.{moves_left}
+use Rattle.task_machine.proofs.Items.{same_some}
+use Rattle.task_machine.proofs.Stops.{drop_end, stop_ended, stop_begins, stop_held}
+use Rattle.core_book.specs.Ledger.{Ledger}
+use Rattle.core_book.specs.Kept.{Shelf, KeepsState, state_now}
+use Rattle.core_book.proofs.Few.{one_left}
+use Rattle.core_book.proofs.Moved.{ledger_of, phase_read}
+
+-- the caller's program is the book's
+pub same_program : (shelf : Shelf) (l : Ledger) (prog : Program) → ledger_of shelf ≡ l → prog ≡ l.program → prog ≡ shelf.program
+same_program shelf l prog view same = same ∙ sym (ap (λ (z : Ledger). z.program) view)
+
+-- what the caller says of its program and the history holds in the book's own terms, and the other way
+pub own : (P : Program → List Entry → Type 0) (shelf : Shelf) (l : Ledger) (prog : Program) → ledger_of shelf ≡ l → prog ≡ l.program
+    → P prog l.history → P shelf.program shelf.entries
+own P shelf l prog view same said =
+    subst (λ (q : Program). P q shelf.entries) (same_program shelf l prog view same) (subst (P prog) (sym (ap (λ (z : Ledger). z.history) view)) said)
+
+pub theirs : (P : Program → List Entry → Type 0) (shelf : Shelf) (l : Ledger) (prog : Program) → ledger_of shelf ≡ l → prog ≡ l.program
+    → P shelf.program shelf.entries → P prog l.history
+theirs P shelf l prog view same said =
+    subst (λ (q : Program). P q l.history) (sym (same_program shelf l prog view same)) (subst (P shelf.program) (ap (λ (z : Ledger). z.history) view) said)
+
+-- the task of a record, read from the program
+pub def_is : (p : Program) (t : ℕ) (def : TaskDef) → slice_get p.tasks.items t ≡ Some def → def_of p t ≡ def
+def_is p t def is_def = ap (λ (o : Option TaskDef). unwrap_or o no_task) is_def
+
+-- the task of a record that stands there
+pub record Held (shelf : Shelf) (held : Record) (t : ℕ) (def : TaskDef) (at : Phase) : Type 0 where
+  pub was : Task
+  pub is_def : slice_get shelf.program.tasks.items t ≡ Some def
+  pub is_task : slice_get (state_now shelf).tasks t ≡ Some was
+  pub who : t ≡ held.task
+  pub program : held.program ≡ shelf.program
+  pub held_def : def_of held.program held.task ≡ def
+  pub place : held.phase ≡ at
+  pub stands : StandsAs def at held.copy was
+
+pub held_as : (shelf : Shelf) (held : Record) (t : ℕ) (at : Phase) → (s : StandsFor shelf.program held (state_now shelf)) → t ≡ held.task → held.phase ≡ at
+    → Held shelf held t s.def at
+held_as shelf held t at s who place = record {
+  was = s.task;
+  is_def = ap (slice_get shelf.program.tasks.items) who ∙ s.is_def;
+  is_task = ap (slice_get (state_now shelf).tasks) who ∙ s.is_task;
+  who = who;
+  program = s.same;
+  held_def = ap (λ (z : Program). def_of z held.task) s.same ∙ def_is shelf.program held.task s.def s.is_def;
+  place = place;
+  stands = subst (λ (q : Phase). StandsAs s.def q held.copy s.task) place s.stands;
+}
+
+-- the same, where the code has read the task
+pub held_at : (shelf : Shelf) (held : Record) (t : ℕ) (def : TaskDef) (at : Phase) (l : Ledger) (prog : Program) → ledger_of shelf ≡ l → prog ≡ l.program
+    → StandsFor prog held (final prog l.history) → t ≡ held.task → slice_get prog.tasks.items t ≡ Some def → held.phase ≡ at → Held shelf held t def at
+held_at shelf held t def at l prog view same stands who is_def place =
+    let s = own (λ (q : Program) (es : List Entry). StandsFor q held (final q es)) shelf l prog view same stands in
+    let here : slice_get shelf.program.tasks.items t ≡ Some def = subst (λ (q : Program). slice_get q.tasks.items t ≡ Some def)
+    (same_program shelf l prog view same) is_def in
+    let one : s.def ≡ def = same_some (sym s.is_def ∙ ap (slice_get shelf.program.tasks.items) (sym who) ∙ here) in
+    subst (λ (d : TaskDef). Held shelf held t d at) one (held_as shelf held t at s who place)
+
+-- the move that the caller asks for, in the book's own terms
+pub may_move : (shelf : Shelf) (held : Record) (t : ℕ) (l : Ledger) (prog : Program) → ledger_of shelf ≡ l → prog ≡ l.program
+    → MayMove prog (final prog l.history) held.task → t ≡ held.task → MayMove shelf.program (state_now shelf) t
+may_move shelf held t l prog view same may who =
+    subst (MayMove shelf.program (state_now shelf)) (sym who) (own (λ (q : Program) (es : List Entry). MayMove q
+    (final q es) held.task) shelf l prog view same may)
+
+-- where the book reads the phase of the task
+pub read_at : (shelf : Shelf) (held : Record) (t : ℕ) (def : TaskDef) (at q : Phase) → KeepsState shelf → (h : Held shelf held t def at) → h.was.phase ≡ q
+    → slice_get shelf.phases t ≡ Some q
+read_at shelf held t def at q k h is = phase_read shelf t h.was k h.is_task ∙ ap Some is
+
+-- a task that was started was handed out
+pub handed_of : (shelf : Shelf) (held : Record) (t : ℕ) (def : TaskDef) (at q : Phase) → KeepsState shelf → (h : Held shelf held t def at) → h.was.phase ≡ q
+    → q ≢ phase.Waiting
+    → slice_get shelf.ready.handed t ≡ Some true
+handed_of shelf held t def at q k h is started = k.begun t q (read_at shelf held t def at q k h is) started
+
+-- a task that may still move has room for its entry
+pub room_at : (shelf : Shelf) (held : Record) (t : ℕ) (def : TaskDef) (at q : Phase) → KeepsState shelf → (h : Held shelf held t def at) → h.was.phase ≡ q
+    → 0 < moves_left (length def.body.items) q
+    → (length shelf.entries < shelf.entry_places) × (length shelf.statuses < shelf.status_places) × (length shelf.notices < shelf.notice_places)
+room_at shelf held t def at q k h is some =
+    let left = one_left shelf.program.tasks.items shelf.phases t def q h.is_def (read_at shelf held t def at q k h is) in
+    let entries = k.entry_room in
+    let statuses = k.status_room in
+    let notices = k.notice_room in
+    (omega arith, omega arith, omega arith)
+
+pub phases_counted : (shelf : Shelf) → KeepsState shelf → length shelf.phases ≡ length shelf.program.tasks.items
+phases_counted shelf k =
+    ap (λ (z : List Phase). length z) k.phases_are ∙ length-map (state_now shelf).tasks (λ (z : Task). z.phase) ∙ k.tidy.counted
+
+pub place_within : (shelf : Shelf) (held : Record) (t : ℕ) (def : TaskDef) (at : Phase) → KeepsState shelf → Held shelf held t def at → t < length shelf.phases
+place_within shelf held t def at k h = slice_get_within shelf.phases t h.was.phase (phase_read shelf t h.was k h.is_task)
+
+-- the end of the body
+advanced_past : (def : TaskDef) (k : ℕ) (copy : List ℤ) → length def.body.items ≤ k → advanced def k copy ≡ copy
+unfolding advanced
+advanced_past def k copy past = ap (λ (ops : List Op). run_front def ops copy) (drop_end def.body.items k past)
+
+stop_past : (def : TaskDef) (k : ℕ) → length def.body.items ≤ k → stop def k ≡ phase.Ended
+stop_past def k past = sym (stop_ended def k k (stop_begins def k) past)
+
+stands_if : (def : TaskDef) (k : ℕ) (copy : List ℤ) (task : Task) (more : Bool) → (more ≡ false → length def.body.items ≤ k) → task.phase ≡ stop def k
+    → task.copy ≡ advanced def k copy → StandsAs def (cond more (phase.At k) phase.Ended) copy task
+stands_if def k copy task true past at copied = (sym at, sym copied)
+stands_if def k copy task false past at copied = (at ∙ stop_past def k (past refl), sym (copied ∙ advanced_past def k copy (past refl)))
+
+-- where a task stands that has made the operations before this one
+pub stands_before : (def : TaskDef) (k : ℕ) (copy : List ℤ) (task : Task) → task.phase ≡ stop def k → task.copy ≡ advanced def k copy
+    → StandsAs def (phase_before def k) copy task
+stands_before def k copy task at copied = stands_if def k copy task (ltb k (length def.body.items)) (ltb-false k (length def.body.items)) at copied
+
+pub stop_is_held : (def : TaskDef) (k : ℕ) → is_released (stop def k) ≡ false
+unfolding stop
+stop_is_held def k = stop_held k (drop k def.body.items)

@@ -1,0 +1,23 @@
+-- The fields of a book as its insides.
+use Rattle.std.specs.Prelude.{vec_capacity}
+use Rattle.core_book.specs.declared.book.Book.TheInside.{Inside}
+use Rattle.core_book.specs.Kept.{Shelf}
+
+abbrev pub shelf_of : Inside → Shelf
+shelf_of b = record {
+  program = b.program.value;
+  workers = b.workers;
+  ready = b.deps;
+  engine = b.engine;
+  memory = b.memory.items;
+  phases = b.phases.items;
+  notices = b.notices.items;
+  entries = b.entries.items;
+  statuses = b.statuses.items;
+  unreleased = b.unreleased;
+  waits = b.waits;
+  posted = b.posted;
+  entry_places = vec_capacity b.entries;
+  status_places = vec_capacity b.statuses;
+  notice_places = vec_capacity b.notices;
+}

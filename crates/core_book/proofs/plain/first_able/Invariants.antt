@@ -1,7 +1,0 @@
-use Rattle.core_book.specs.Legal.{final}
-use Rattle.core_book.proofs.Questions.{NoneBefore}
-use Rattle.core_book.proofs.plain.first_able.Given as goal
-
--- none of the tasks so far may move
-abbrev pub invariant-loop-t : goal.invariant-loop-t
-invariant-loop-t l = NoneBefore l.prog (final l.prog l.book.history) l.t

@@ -1,0 +1,11 @@
+use Rattle.match_engine.proofs.Keeps.{posted_has_slot}
+use Rattle.match_engine.proofs.Replies.{complete_posted, span_for}
+use Rattle.match_engine.proofs.engine.Engine.span.Goals as goal
+
+pub get-slot-requires : goal.get-slot-requires
+get-slot-requires c =
+    posted_has_slot c.self.inside.program.value c.self.inside.eager c.self.inside.exchange c.self.inside.slots c.args.req c.self.invariant
+    (complete_posted c.self.inside.program.value c.self.inside.exchange c.args.req c.args.self.now c.self.view_is c.requires)
+
+pub returns : goal.returns
+returns c = span_for _ _ _ _ c.args.req c.get-slot.result c.args.self.now c.self.invariant c.self.view_is c.get-slot.ensures

@@ -1,0 +1,4 @@
+mod Others
+mod Lines
+mod Before
+mod Picks

@@ -1,0 +1,171 @@
+-- A move of a task changes no other task, and leaves fewer moves.
+use Rattle.std.proofs.Common.{◌≡◌, ℕ, zero, suc, ◌+◌, ◌-◌, ◌*◌, ◌<◌, ◌≤◌, Bool, true, false, List, [], ◌∷◌, length, drop, slice_get, slice_set, Option, Some, None, refl, sym, ap, ◌∙◌, subst, drop-drop, arith}
+use Rattle.std.specs.Prelude.{All, ⊤}
+use Rattle.std.proofs.lemmas.List.Elements.{All-get_or}
+use Rattle.std.proofs.lemmas.Option.{slice_get_within, get_or_from_slice_get}
+use Rattle.rt_base.specs.declared.data.Phase.{Phase}
+use Rattle.rt_base.specs.declared.data.Phase.TheVariants as phase
+use Rattle.rt_base.specs.declared.data.Op.{Op}
+use Rattle.rt_base.specs.declared.data.Op.TheVariants as op
+use Rattle.rt_base.specs.declared.data.Entry.{Entry}
+use Rattle.rt_base.specs.declared.data.TaskDef.{TaskDef}
+use Rattle.rt_base.specs.declared.data.Program.{Program}
+use Rattle.rt_base.specs.Operations.{blocks}
+use Rattle.rt_base.specs.State.{State, Task}
+use Rattle.task_local.specs.Regions.{loaded}
+use Rattle.task_local.specs.Local.{advanced, stop_at, stop}
+use Rattle.task_local.specs.Waits.{taken, taken_at_release}
+use Rattle.task_machine.specs.Machine.{Moved, move, move_at, call_move, post_move}
+use Rattle.task_machine.specs.Legal.{caller}
+use Rattle.core_book.specs.Ledger.{IsBlocking}
+use Rattle.plain_run.specs.Plain.{IsPlainOperation}
+use Rattle.task_machine.specs.Course.{moves_left}
+use Rattle.plain_run.specs.Turns.{is_started, IsPlaced}
+use Rattle.task_machine.proofs.Rows.{move-row}
+use Rattle.core_book.proofs.Changes.{fewer_at_start, fewer_after_leave, left_by_stop}
+
+-- a task that stands there may be moved on: before or in a posting that blocks, or before its start, its return or its release
+abbrev pub IsAble : TaskDef → Phase → Type 0
+IsAble def phase.Waiting = ⊤
+IsAble def (phase.At k) = IsBlocking (slice_get def.body.items k)
+IsAble def (phase.In k) = IsBlocking (slice_get def.body.items k)
+IsAble def phase.Ended = ⊤
+IsAble def phase.Returned = ⊤
+IsAble def phase.Released = ⊥
+
+-- what a move of task t changes of the tasks
+pub record OnlyMoves (p : Program) (s : State) (t : ℕ) (def : TaskDef) (was : Task) (new : State) (e : Entry) : Type 0 where
+  pub now : Task
+  pub tasks : new.tasks ≡ slice_set s.tasks t now
+  pub who : caller (length p.tasks.items) e ≡ t
+  pub started : is_started now.phase ≡ true
+  pub placed : IsPlaced def now.phase
+  pub fewer : moves_left (length def.body.items) now.phase + 1 ≤ moves_left (length def.body.items) was.phase
+
+-- where a task stops it is started, and in no operation
+stop_at_started : (k : ℕ) (ops : List Op) → is_started (stop_at k ops) ≡ true
+stop_at_started k [] = refl
+stop_at_started k (op.Compute kind dst left right value step ∷ ops) = stop_at_started (k + 1) ops
+stop_at_started k (op.Post how span peer tag comm status ∷ ops) = refl
+stop_at_started k (op.Await later handles status ∷ ops) = refl
+
+stop_at_placed : (def : TaskDef) (k : ℕ) (ops : List Op) → IsPlaced def (stop_at k ops)
+stop_at_placed def k [] = tt
+stop_at_placed def k (op.Compute kind dst left right value step ∷ ops) = stop_at_placed def (k + 1) ops
+stop_at_placed def k (op.Post how span peer tag comm status ∷ ops) = tt
+stop_at_placed def k (op.Await later handles status ∷ ops) = tt
+
+pub stop_is_started : (def : TaskDef) (k : ℕ) → is_started (stop def k) ≡ true
+unfolding stop
+stop_is_started def k = stop_at_started k (drop k def.body.items)
+
+stop_is_placed : (def : TaskDef) (k : ℕ) → IsPlaced def (stop def k)
+unfolding stop
+stop_is_placed def k = stop_at_placed def k (drop k def.body.items)
+
+-- an operation that blocks is one of the body
+blocking_within : (def : TaskDef) (k : ℕ) (o : Option Op) → slice_get def.body.items k ≡ o → IsBlocking o → k < length def.body.items
+blocking_within def k None here blocking = absurd blocking
+blocking_within def k (Some x) here blocking = slice_get_within def.body.items k x here
+
+-- the row of a posting that blocks
+post_row : (p : Program) (s : State) (t : ℕ) (def : TaskDef) (was : Task) (k : ℕ) (blocking : Bool) → was.phase ≡ phase.At k → blocking ≡ true
+    → IsBlocking (slice_get def.body.items k)
+    → OnlyMoves p s t def was (post_move p s t def was k blocking).state (post_move p s t def was k blocking).entry
+post_row p s t def was k false at blocking placed = absurd (cc)
+post_row p s t def was k true at blocking placed =
+    let before : moves_left (length def.body.items) was.phase ≡ 2 * (length def.body.items - k) + 2 = ap (moves_left (length def.body.items)) at in
+    record {
+      now = record was { phase = phase.In k };
+      tasks = refl;
+      who = refl;
+      started = refl;
+      placed = placed;
+      fewer = omega arith;
+    }
+
+call_row : (p : Program) (s : State) (t : ℕ) (def : TaskDef) (was : Task) (k : ℕ) (o : Option Op) → slice_get def.body.items k ≡ o → was.phase ≡ phase.At k
+    → IsBlocking o
+    → OnlyMoves p s t def was (call_move p s t def was k o).state (call_move p s t def was k o).entry
+call_row p s t def was k None here at able = absurd able
+call_row p s t def was k (Some (op.Compute kind dst left right value step)) here at able = absurd able
+call_row p s t def was k (Some (op.Post how span peer tag comm status)) here at able = post_row p s t def was k (blocks how) at able
+    (subst IsBlocking (sym here) able)
+call_row p s t def was k (Some (op.Await later handles status)) here at able = absurd able
+
+-- each row of the machine
+row : (p : Program) (s : State) (t : ℕ) (def : TaskDef) (was : Task) (at : Phase) → was.phase ≡ at → IsAble def at
+    → OnlyMoves p s t def was (move_at p s t def was at).state (move_at p s t def was at).entry
+row p s t def was phase.Waiting waits able = record {
+  now = record was { phase = stop def 0; copy = advanced def 0 (loaded p def s.memory) };
+  tasks = refl;
+  who = refl;
+  started = stop_is_started def 0;
+  placed = stop_is_placed def 0;
+  fewer = rw waits (fewer_at_start (length def.body.items) _ (left_by_stop def 0 (omega arith)));
+}
+row p s t def was (phase.At k) at able = call_row p s t def was k (slice_get def.body.items k) refl at able
+row p s t def was (phase.In k) in_k able =
+    let within = blocking_within def k (slice_get def.body.items k) refl able in
+    record {
+      now = record was { phase = stop def (k + 1); copy = advanced def (k + 1) (taken p s.exchange t def k was.copy) };
+      tasks = refl;
+      who = refl;
+      started = stop_is_started def (k + 1);
+      placed = stop_is_placed def (k + 1);
+      fewer = rw in_k (fewer_after_leave (length def.body.items) k _ within (left_by_stop def (k + 1) (omega arith)));
+    }
+row p s t def was phase.Ended ended able = record {
+  now = record was { phase = phase.Returned };
+  tasks = refl;
+  who = refl;
+  started = refl;
+  placed = tt;
+  fewer = rw ended (omega arith);
+}
+row p s t def was phase.Returned returned able = record {
+  now = record was { phase = phase.Released; copy = taken_at_release p s.exchange t def was.named was.copy };
+  tasks = refl;
+  who = refl;
+  started = refl;
+  placed = tt;
+  fewer = rw returned (omega arith);
+}
+row p s t def was phase.Released released able = absurd able
+
+-- a move of a task that may be moved on changes that task alone
+pub move_others : (p : Program) (s : State) (t : ℕ) (def : TaskDef) (was : Task) → slice_get p.tasks.items t ≡ Some def → slice_get s.tasks t ≡ Some was
+    → IsAble def was.phase
+    → OnlyMoves p s t def was (move p s t).state (move p s t).entry
+move_others p s t def was is_def is_task able =
+    subst (λ (m : Moved). OnlyMoves p s t def was m.state m.entry) (sym (move-row p s t def was was.phase is_def is_task refl))
+    (row p s t def was was.phase refl able)
+
+-- what stands at the front of the rest of a list
+at_drop : {X : Type 0} (xs : List X) (k : ℕ) (x : X) (rest : List X) → drop k xs ≡ x ∷ rest → slice_get xs k ≡ Some x
+at_drop [] zero x rest here = absurd (cc)
+at_drop [] (suc k) x rest here = absurd (cc)
+at_drop (y ∷ ys) zero x rest here = cc
+at_drop (y ∷ ys) (suc k) x rest here = at_drop ys k x rest here
+
+rest_after : (k : ℕ) (ops rest : List Op) (x : Op) → drop k ops ≡ x ∷ rest → drop (k + 1) ops ≡ rest
+rest_after k ops rest x here = sym (drop-drop 1 k ops) ∙ ap (λ (xs : List Op). drop 1 xs) here
+
+-- what holds of all holds of each
+pub all_at : {X : Type 0} (P : X → Type 0) (xs : List X) (i : ℕ) (x : X) → All P xs → slice_get xs i ≡ Some x → P x
+all_at P xs i x all here = subst P (get_or_from_slice_get xs i x x here) (All-get_or P xs i x (slice_get_within xs i x here) all)
+
+-- a plain body stops at a posting that blocks, or at its end
+able_at : (def : TaskDef) (k : ℕ) (ops : List Op) → drop k def.body.items ≡ ops → All IsPlainOperation def.body.items → IsAble def (stop_at k ops)
+able_at def k [] here plain = tt
+able_at def k (op.Compute kind dst left right value step ∷ ops) here plain = able_at def (k + 1) ops
+    (rest_after k def.body.items ops (op.Compute kind dst left right value step) here) plain
+able_at def k (op.Post how span peer tag comm status ∷ ops) here plain =
+    let first = at_drop def.body.items k (op.Post how span peer tag comm status) ops here in
+    subst IsBlocking (sym first) (all_at IsPlainOperation def.body.items k (op.Post how span peer tag comm status) plain first)
+able_at def k (op.Await later handles status ∷ ops) here plain =
+    absurd (all_at IsPlainOperation def.body.items k (op.Await later handles status) plain (at_drop def.body.items k (op.Await later handles status) ops here))
+
+pub stop_able : (def : TaskDef) (k : ℕ) → All IsPlainOperation def.body.items → IsAble def (stop def k)
+unfolding stop
+stop_able def k plain = able_at def k (drop k def.body.items) refl plain

@@ -1,0 +1,9 @@
+pub mod Items
+pub mod Lists
+pub mod Rows
+pub mod Runs
+pub mod Moves
+pub mod Stops
+pub mod Calls
+pub mod Fronts
+pub mod Growth

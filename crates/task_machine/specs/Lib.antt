@@ -1,0 +1,5 @@
+pub mod Machine
+pub mod Legal
+pub mod Course
+pub mod Owed
+pub mod Laws

@@ -1,0 +1,55 @@
+-- What a move leaves open, and which requests a task is still to be told of.
+use Rattle.std.specs.Prelude.{◌≡◌, ℕ, Bool, true, false, List, [], ◌∷◌, slice_get, Option, Some, None, ◌⊎◌}
+use Rattle.std.specs.List.{list_any}
+use Rattle.rt_base.specs.declared.data.ReqNo.{ReqNo}
+use Rattle.rt_base.specs.declared.data.Phase.{Phase}
+use Rattle.rt_base.specs.declared.data.Phase.TheVariants as phase
+use Rattle.rt_base.specs.declared.data.Op.{Op}
+use Rattle.rt_base.specs.declared.data.TaskDef.{TaskDef}
+use Rattle.rt_base.specs.declared.data.Program.{Program}
+use Rattle.rt_base.specs.Operations.{request, blocks, nth_at, named_requests, by_parts_of}
+use Rattle.rt_base.specs.Matching.{same_request}
+use Rattle.rt_base.specs.Exchange.{post}
+use Rattle.rt_base.specs.Completion.{is_complete}
+use Rattle.rt_base.specs.State.{State, Task}
+use Rattle.task_local.specs.Packed.{packed}
+use Rattle.task_machine.specs.Machine.{is_expected, open_ones}
+
+-- a posting opens its own request, where it blocks and the request is incomplete after it
+abbrev pub opened_by_posting : Program → State → ℕ → TaskDef → Task → ℕ → Bool → List ReqNo
+opened_by_posting program state t def task k false = []
+opened_by_posting program state t def task k true =
+    let req = request t (nth_at def k) in
+    open_ones program (post program state.exchange req (packed def k task.copy)) (req ∷ [])
+
+-- the call of an operation opens what it then waits for, or binds: a wait, what it names and is incomplete (MPI 4.0, 3.7.3 and 3.7.5; TAMPI, TAMPI_Iwait)
+abbrev pub opened_by : Program → State → ℕ → TaskDef → Task → ℕ → Option Op → List ReqNo
+opened_by program state t def task k operation =
+    by_parts_of [] (λ posted. opened_by_posting program state t def task k (blocks posted.how))
+    (λ waited. open_ones program state.exchange (named_requests t waited.handles)) operation
+
+-- what the move of a task opens that stands there: only a call opens anything
+abbrev pub opened_at : Program → State → ℕ → TaskDef → Task → Phase → List ReqNo
+opened_at program state t def task phase.Waiting = []
+opened_at program state t def task (phase.At k) = opened_by program state t def task k (slice_get def.body.items k)
+opened_at program state t def task (phase.In k) = []
+opened_at program state t def task phase.Ended = []
+opened_at program state t def task phase.Returned = []
+opened_at program state t def task phase.Released = []
+
+abbrev pub opened_of : Program → State → ℕ → Option TaskDef → Option Task → List ReqNo
+opened_of program state t None task = []
+opened_of program state t (Some def) None = []
+opened_of program state t (Some def) (Some task) = opened_at program state t def task task.phase
+
+-- the requests that the move of task t opens: incomplete after it, and awaited or bound by the task from then on
+unfoldable pub opened : Program → State → ℕ → List ReqNo
+opened program state t = opened_of program state t (slice_get program.tasks.items t) (slice_get state.tasks t)
+
+-- the request is one of these
+abbrev pub IsIn : ReqNo → List ReqNo → Type 0
+IsIn req reqs = list_any (same_request req) reqs ≡ true
+
+-- a task is still to be told of the request: it is incomplete and expected, or its notice stands (TAMPI, completion by polling)
+abbrev pub IsOwed : Program → State → ReqNo → Type 0
+IsOwed program state req = ((is_complete program state.exchange req ≡ false) × (is_expected program state.tasks req ≡ true)) ⊎ IsIn req state.notices
