@@ -65,7 +65,8 @@ abbrev pub posted_with : ℕ → List Posted → Posted → List ReqNo
 posted_with ranks calls next = (after (silent ranks) calls).posted ++ next.request ∷ []
 
 -- a message to the rank that the receive of a match accepts, and that was posted earlier than the message of the match,
--- was matched earlier (MPI 4.0, 3.5, order)
+-- was matched earlier (between messages of one sender MPI 4.0, 3.5, order; that messages of different senders, and of different tasks of one rank,
+-- are ordered by the place of their posting is this project's)
 abbrev pub MessagesDoNotOvertake : Type 0
 MessagesDoNotOvertake =
     (ranks rank : ℕ) (calls : List Posted) (next : Posted) (made : Match) (earlier : Message)
@@ -76,7 +77,7 @@ MessagesDoNotOvertake =
     → Contains (map (λ (m : Match). m.message) (after (silent ranks) calls).matches) earlier
 
 -- a receive at the rank that accepts the message of a match, and that was posted earlier than the receive of the match,
--- was matched earlier (MPI 4.0, 3.5, order)
+-- was matched earlier (between receives of one task MPI 4.0, 3.5, order; between receives of different tasks of one rank this project's)
 abbrev pub ReceivesDoNotOvertake : Type 0
 ReceivesDoNotOvertake =
     (ranks rank : ℕ) (calls : List Posted) (next : Posted) (made : Match) (earlier : Receive)

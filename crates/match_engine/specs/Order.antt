@@ -23,7 +23,8 @@ MatchesArePosted =
     → (rank : ℕ) × IsMatchAt ranks rank calls i made
 
 -- a message to the rank that the receive of a match accepts, and that was posted earlier than the message of the match, stands in an earlier match
--- (between messages of one sender MPI 4.0, 3.5, order; that messages of different senders are ordered by the place of their posting is this project's)
+-- (between messages of one sender MPI 4.0, 3.5, order; that messages of different senders, and of different tasks of one rank, are ordered by the
+-- place of their posting is this project's)
 abbrev pub MessagesKeepOrder : Type 0
 MessagesKeepOrder =
     (ranks rank : ℕ) (calls : List Posted) (i j : ℕ) (made : Match) (earlier : Message) → (at : IsMatchAt ranks rank calls i made)
@@ -31,7 +32,7 @@ MessagesKeepOrder =
     → Contains (map (λ (m : Match). m.message) (take i (after (silent ranks) calls).matches)) earlier
 
 -- a receive at the rank that accepts the message of a match, and that was posted earlier than the receive of the match, stands in an earlier match
--- (MPI 4.0, 3.5, order)
+-- (between receives of one task MPI 4.0, 3.5, order; between receives of different tasks of one rank this project's)
 abbrev pub ReceivesKeepOrder : Type 0
 ReceivesKeepOrder =
     (ranks rank : ℕ) (calls : List Posted) (i j : ℕ) (made : Match) (earlier : Receive) → (at : IsMatchAt ranks rank calls i made)

@@ -8,14 +8,15 @@ pub fn nothing_that_matches_is_left()
     ensures { NothingMatchesIsLeft }
 {}
 
-/// Messages never overtake each other: one that the receive accepts and that was posted earlier was matched earlier (MPI 4.0, 3.5, order; that
-/// messages of different senders are ordered by the place of their posting is this project's). Said of the match that the next posting makes.
+/// Messages never overtake each other: one that the receive accepts and that was posted earlier was matched earlier (between messages of one sender
+/// MPI 4.0, 3.5, order; between those of different senders, and of different tasks of one rank, this project's). Said of the match that the next
+/// posting makes.
 pub fn messages_do_not_overtake()
     ensures { MessagesDoNotOvertake }
 {}
 
-/// Receives never overtake each other: one that accepts the message and that was posted earlier was matched earlier (MPI 4.0, 3.5, order).
-/// Said of the match that the next posting makes.
+/// Receives never overtake each other: one that accepts the message and that was posted earlier was matched earlier (between receives of one task
+/// MPI 4.0, 3.5, order; between those of different tasks of one rank this project's). Said of the match that the next posting makes.
 pub fn receives_do_not_overtake()
     ensures { ReceivesDoNotOvertake }
 {}
@@ -27,13 +28,13 @@ pub fn matches_are_posted()
 {}
 
 /// In every match of a list of postings: a message that the receive accepts and that was posted earlier than the message of the match stands in
-/// an earlier match (MPI 4.0, 3.5, order; between different senders this project's).
+/// an earlier match (MPI 4.0, 3.5, order; between messages of different senders, or of different tasks of one rank, this project's).
 pub fn messages_keep_order()
     ensures { MessagesKeepOrder }
 {}
 
 /// In every match of a list of postings: a receive that accepts the message and that was posted earlier than the receive of the match stands in
-/// an earlier match (MPI 4.0, 3.5, order).
+/// an earlier match (MPI 4.0, 3.5, order; between receives of different tasks of one rank this project's).
 pub fn receives_keep_order()
     ensures { ReceivesKeepOrder }
 {}

@@ -44,7 +44,8 @@ impl Queues {
     pub fn send(&mut self, message: Message) -> Option<Match>
         requires room { 0 < self.old.room }
         ensures lists { self.new.mailbox ≡ send self.old.mailbox message }
-        ensures made { result ≡ option_map (λ found. record { message = message; receive = found }) (element self.old.mailbox.receives (place_of_receive self.old.mailbox message)) }
+        ensures made { result ≡ option_map (λ found. record { message = message; receive = found })
+            (element self.old.mailbox.receives (place_of_receive self.old.mailbox message)) }
         ensures room { self.new.room + 1 ≡ self.old.room }
     {
         self.room -= 1;
@@ -64,7 +65,8 @@ impl Queues {
     pub fn receive(&mut self, wish: Receive) -> Option<Match>
         requires room { 0 < self.old.room }
         ensures lists { self.new.mailbox ≡ receive self.old.mailbox wish }
-        ensures made { result ≡ option_map (λ found. record { message = found; receive = wish }) (element self.old.mailbox.messages (place_of_message self.old.mailbox wish)) }
+        ensures made { result ≡ option_map (λ found. record { message = found; receive = wish })
+            (element self.old.mailbox.messages (place_of_message self.old.mailbox wish)) }
         ensures room { self.new.room + 1 ≡ self.old.room }
     {
         self.room -= 1;

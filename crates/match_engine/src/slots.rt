@@ -176,42 +176,29 @@ fn row_of(alloc: Global, task: &TaskDef) -> Result<Vec<Slot>, AllocError>
 fn push_slot(row: &mut Vec<Slot>, rank: u16, operation: &Op) -> Result<(), AllocError>
     ensures { IfOk result (λ _. row.new.items ≡ row.old.items ++ map (fresh_slot rank) (filter is_posting (operation.now ∷ []))) }
 {
-    match operation {
-        Op::Post {
-            how,
-            span,
-            peer,
-            tag,
-            comm,
-            status: _,
-        } => {
-            let call = Call {
-                how: *how,
-                span: *span,
-                peer: *peer,
-                tag: *tag,
-                comm: *comm,
-                rank,
-            };
-            Ok(row.push(Slot {
-                call,
-                progress: Progress::Unposted,
-            })?)
-        }
-        Op::Compute {
-            kernel: _,
-            dst: _,
-            left: _,
-            right: _,
-            value: _,
-            step: _,
-        } => Ok(()),
-        Op::Await {
-            later: _,
-            handles: _,
-            status: _,
-        } => Ok(()),
+    if let Op::Post {
+        how,
+        span,
+        peer,
+        tag,
+        comm,
+        status: _,
+    } = operation
+    {
+        let call = Call {
+            how: *how,
+            span: *span,
+            peer: *peer,
+            tag: *tag,
+            comm: *comm,
+            rank,
+        };
+        row.push(Slot {
+            call,
+            progress: Progress::Unposted,
+        })?;
     }
+    Ok(())
 }
 
 // The request isn't posted yet.

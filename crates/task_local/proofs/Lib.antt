@@ -10,3 +10,4 @@ pub mod Searches
 pub mod Fresh
 pub mod Saved
 pub mod Rows
+pub mod Releases

@@ -12,7 +12,7 @@ use Rattle.rt_base.specs.declared.data.Mode.TheVariants as mode
 use Rattle.rt_base.specs.Spans.{span_len, Overlaps}
 use Rattle.task_local.specs.declared.index.Region.{Region}
 use Rattle.task_local.specs.Regions.{numbered, begins_before, placed_in_order, in_order, regions}
-use Rattle.task_local.specs.Kept.{first_cell, has_cell, EndsBefore, IsRegion}
+use Rattle.task_local.specs.Kept.{first_cell, is_nonempty, EndsBefore, IsRegion}
 use Rattle.task_local.proofs.Places.{is_filled, length-numbered, access_at, All-numbered, IsPermutation-placed_in_order, IsPermutation-in_order, All-in_order, in_order_filled}
 
 -- each region ends before the later ones begin
@@ -133,7 +133,7 @@ Rises-in_order (region ∷ others) low apart =
     let rest = Rises-in_order others low_rest (AllPairs-tail Misses region others apart) in
     let apart_rest = All-in_order (Misses region) others (AllPairs-head Misses region others apart) in
     region_rises region (in_order others) (span_len region.access.span == 0)
-    (λ e. let here : has_cell region ≡ true = ap not e in
+    (λ e. let here : is_nonempty region ≡ true = ap not e in
     Rises-placed region (in_order others) (filled_is region.access here, All-head IsLowRegion region others low here) (are_regions_in_order others low_rest)
     apart_rest rest)
     rest
@@ -294,7 +294,7 @@ Climbs-from_sorted (region ∷ others) sorted = (
 
 -- the filled accesses with their numbers, sorted by their first cells, are the regions
 pub sorted_is_regions : (accesses : List Access) (ordered : List Region) → All IsLowFilled accesses → AreApart accesses
-    → IsPermutation (filter has_cell (numbered 0 accesses)) ordered → IsNonDecreasingBy first_cell ordered → ordered ≡ regions accesses
+    → IsPermutation (filter is_nonempty (numbered 0 accesses)) ordered → IsNonDecreasingBy first_cell ordered → ordered ≡ regions accesses
 sorted_is_regions accesses ordered low apart moved sorted =
     sym (one_order (regions accesses) ordered (Rises-regions accesses low apart) (Climbs-from_sorted ordered sorted)
     (λ f. sum_by-IsPermutation f _ _ (IsPermutation-in_order (numbered 0 accesses)) ∙ sym (sum_by-IsPermutation f _ _ moved)))

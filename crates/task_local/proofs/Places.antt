@@ -10,7 +10,7 @@ use Rattle.rt_base.specs.Spans.{span_len}
 use Rattle.rt_base.specs.WellFormed.{Declares, IsDeclared}
 use Rattle.task_local.specs.declared.index.Region.{Region}
 use Rattle.task_local.specs.Regions.{numbered, begins_before, placed_in_order, in_order, regions, cells_before}
-use Rattle.task_local.specs.Kept.{has_cell, place_in, cell_total, FitsIn}
+use Rattle.task_local.specs.Kept.{is_nonempty, place_in, cell_total, FitsIn}
 
 -- the access isn't empty
 abbrev pub is_filled : Access → Bool
@@ -62,22 +62,22 @@ region_either region found ordered true moved = moved
 region_either region found ordered false moved =
     IsPermutation-trans _ _ _ (IsPermutation-cons region _ _ moved) (IsPermutation-placed_in_order region ordered)
 
-pub IsPermutation-in_order : (all : List Region) → IsPermutation (filter has_cell all) (in_order all)
+pub IsPermutation-in_order : (all : List Region) → IsPermutation (filter is_nonempty all) (in_order all)
 IsPermutation-in_order [] = IsPermutation-refl _
 IsPermutation-in_order (region ∷ others) =
     region_either region _ _ (span_len region.access.span == 0) (IsPermutation-in_order others)
 
 -- what holds of each holds of each in order, which has a cell
 pub All-in_order : (P : Region → Type 0) (all : List Region) → All P all → All P (in_order all)
-All-in_order P all holds = All-permutation P _ _ (IsPermutation-in_order all) (All-filter has_cell P all holds)
+All-in_order P all holds = All-permutation P _ _ (IsPermutation-in_order all) (All-filter is_nonempty P all holds)
 
 pub All-regions : (P : Access → Type 0) (accesses : List Access) → All P accesses → All (λ (region : Region). P region.access) (regions accesses)
 All-regions P accesses all = All-in_order (λ (region : Region). P region.access) (numbered 0 accesses) (All-numbered P 0 accesses all)
 
-pub in_order_filled : (all : List Region) → All (λ region. has_cell region ≡ true) (in_order all)
-in_order_filled all = All-permutation (λ region. has_cell region ≡ true) _ _ (IsPermutation-in_order all) (filter_passes has_cell all)
+pub in_order_filled : (all : List Region) → All (λ region. is_nonempty region ≡ true) (in_order all)
+in_order_filled all = All-permutation (λ region. is_nonempty region ≡ true) _ _ (IsPermutation-in_order all) (filter_passes is_nonempty all)
 
-pub regions_filled : (accesses : List Access) → All (λ region. has_cell region ≡ true) (regions accesses)
+pub regions_filled : (accesses : List Access) → All (λ region. is_nonempty region ≡ true) (regions accesses)
 regions_filled accesses = in_order_filled (numbered 0 accesses)
 
 -- ---- sums over regions
@@ -92,7 +92,7 @@ filtered_either f region found all true none same = let z = none refl in omega (
 filtered_either f region found all false none same = omega (arith, sum_by-cons f region all, sum_by-cons f region found)
 
 sum_by-filled : (f : Access → ℕ) → Skips f → (all : List Region)
-    → sum_by (λ (region : Region). f region.access) (filter has_cell all) ≡ sum_by (λ (region : Region). f region.access) all
+    → sum_by (λ (region : Region). f region.access) (filter is_nonempty all) ≡ sum_by (λ (region : Region). f region.access) all
 sum_by-filled f skips [] = refl
 sum_by-filled f skips (region ∷ others) =
     filtered_either (λ (region : Region). f region.access) region _ others (span_len region.access.span == 0)

@@ -16,7 +16,7 @@ use Rattle.rt_base.specs.Layout.{address, array_place, array_len, array_count, m
 use Rattle.rt_base.specs.WellFormed.{WellFormed, IsTask, IsSpan, MayWrite, Declares, region_cells}
 use Rattle.task_local.specs.declared.index.Region.{Region}
 use Rattle.task_local.specs.Regions.{numbered, begins_before, placed_in_order, in_order, regions, spliced, put_back, saved_regions, saved, cells_of_span}
-use Rattle.task_local.specs.Kept.{first_cell, end_cell, has_cell, region_len, region_before, place_in, cell_total, IsRegion, RegionLies, EndsBefore}
+use Rattle.task_local.specs.Kept.{first_cell, end_cell, is_nonempty, region_len, region_before, place_in, cell_total, IsRegion, RegionLies, EndsBefore}
 use Rattle.task_local.specs.Laws.{IsCellAt}
 use Rattle.task_local.proofs.Places.{place_among, All-regions, regions_filled, place-rises, place_in-regions, cell_total-regions, declared_fits}
 use Rattle.task_local.proofs.Order.{filled_is, Rises, Rises-regions}
@@ -114,7 +114,7 @@ ascends p rank (x ∷ xs) rises placed =
     let rest = All-tail (IsPlaced p rank) x xs placed in
     (here.lies.inside, λ k d within. ends_before_start p rank x (get_or xs k d) here (rest k d within) (rises.1 k d within), ascends p rank xs rises.2 rest)
 
-placed_is : (p : Program) (rank : ℕ) (region : Region) → WellFormed p → rank < p.ranks → IsSpan p rank region.access.span → has_cell region ≡ true
+placed_is : (p : Program) (rank : ℕ) (region : Region) → WellFormed p → rank < p.ranks → IsSpan p rank region.access.span → is_nonempty region ≡ true
     → IsPlaced p rank region
 placed_is p rank region well exists span filled =
     let fills : region.access.span.from < region.access.span.to = filled_is region.access filled in

@@ -37,8 +37,8 @@ abbrev pub EndsBefore : Region → Region → Type 0
 EndsBefore region other = end_cell region ≤ first_cell other
 
 -- the region isn't empty
-abbrev pub has_cell : Region → Bool
-has_cell region = not (span_len region.access.span == 0)
+abbrev pub is_nonempty : Region → Bool
+is_nonempty region = not (span_len region.access.span == 0)
 
 -- the region has a cell, and its cells have low numbers
 abbrev pub IsRegion : Region → Type 0

@@ -1,17 +1,22 @@
 -- What follows from the definitions alone.
-use Rattle.std.specs.Prelude.{◌≡◌, ◌↔◌, ℕ, ◌*◌, ◌≤◌, true, ℤ, List, length, take, drop, slice_get, Some, All}
+use Rattle.std.specs.Prelude.{◌≡◌, ◌↔◌, ℕ, ◌*◌, ◌≤◌, true, ℤ, List, [], length, take, drop, slice_get, Option, Some, All, ⊤}
 use Rattle.std.specs.List.{flat_map}
 use Rattle.rt_base.specs.declared.data.Span.{Span}
 use Rattle.rt_base.specs.declared.data.Access.{Access}
 use Rattle.rt_base.specs.declared.data.Status.{Status}
+use Rattle.rt_base.specs.declared.data.Handle.{Handle}
+use Rattle.rt_base.specs.declared.data.Handle.TheVariants as handle
 use Rattle.rt_base.specs.declared.data.TaskDef.{TaskDef}
 use Rattle.rt_base.specs.declared.data.Program.{Program}
 use Rattle.rt_base.specs.Spans.{span_len, Covers, is_written}
 use Rattle.rt_base.specs.Layout.{address, memory_len}
 use Rattle.rt_base.specs.WellFormed.{WellFormed, IsTask, MayRead, MayWrite, region_cells}
+use Rattle.rt_base.specs.Operations.{request}
+use Rattle.rt_base.specs.Exchange.{Exchange}
+use Rattle.rt_base.specs.Completion.{request_cells}
 use Rattle.rt_base.specs.State.{State}
 use Rattle.task_local.specs.Regions.{cells_of_span, put, loaded, saved}
-use Rattle.task_local.specs.Waits.{status_cells, put_statuses}
+use Rattle.task_local.specs.Waits.{status_cells, put_statuses, statuses_of, taken_by_handles}
 use Rattle.task_local.specs.StandsFor.{Record, StandsFor}
 use Rattle.task_local.specs.Standing.{def, moved_on}
 
@@ -56,3 +61,15 @@ StatusesAreInARow =
     (program : Program) (task : TaskDef) (copy : List ℤ) (span : Span) (statuses : List Status) → WellFormed program → IsTask program task
     → length copy ≡ region_cells task → MayWrite program task span → 4 * length statuses ≤ span_len span
     → put_statuses task (Some span) statuses copy ≡ put task span (flat_map status_cells statuses) copy
+
+-- what the handle names stores no cells: the null request, a send, a receive of an empty message (MPI 4.0, 3.2.4 and 3.7.3)
+abbrev pub StoresNoCells : Program → Exchange → ℕ → Handle → Type 0
+StoresNoCells program exchange t handle.Null = ⊤
+StoresNoCells program exchange t (handle.Nth n) = request_cells program exchange (request t n) ≡ []
+
+-- where handles store no cells, a release takes by them their statuses alone, in the order of the handles and one behind another (this project's)
+abbrev pub ReleasedStatusesAreInARow : Type 0
+ReleasedStatusesAreInARow =
+    (program : Program) (exchange : Exchange) (t : ℕ) (task : TaskDef) (span : Option Span) (handles : List Handle) (copy : List ℤ)
+    → All (StoresNoCells program exchange t) handles
+    → taken_by_handles program exchange t task span handles copy ≡ put_statuses task span (statuses_of program exchange t handles) copy

@@ -1,11 +1,12 @@
 //! The regions of a task in order, and the place of each in the copy.
 
-ghost use Rattle.std.specs.Prelude.{◌≡◌, ◌+◌, ◌*◌, true, ◌^◌, ◌<◌, ◌≤◌, [], ◌∷◌, ◌++◌, length, filter, take, drop, sum_by, All, AllPairs, IfOk, OnOk, not, ◌==◌};
+ghost use Rattle.std.specs.Prelude.{◌≡◌, ◌+◌, ◌*◌, true, ◌^◌, ◌<◌, ◌≤◌, [], ◌∷◌, ◌++◌, not, ◌==◌};
+ghost use Rattle.std.specs.Prelude.{length, filter, take, drop, sum_by, All, AllPairs, IfOk, OnOk};
 ghost use Rattle.std.specs.List.Sorted.{IsNonDecreasingBy};
 ghost use Rattle.rt_base.specs.declared.data.Access.{Access};
 ghost use Rattle.rt_base.specs.Spans.{span_len, Overlaps};
 ghost use Rattle.task_local.specs.Regions.{numbered, regions, cells_before, spliced};
-ghost use Rattle.task_local.specs.Kept.{first_cell, has_cell, place_in, cell_total, FitsIn, HasBegun, HasOffsets};
+ghost use Rattle.task_local.specs.Kept.{first_cell, is_nonempty, place_in, cell_total, FitsIn, HasBegun, HasOffsets};
 
 use rt_base::{Access, Span};
 use std::alloc::{AllocError, Global};
@@ -111,7 +112,7 @@ fn ordered_regions(alloc: Global, accesses: &[Access]) -> Result<Vec<Region>, Al
 // The accesses that aren't empty, with their numbers.
 fn filled_regions(alloc: Global, accesses: &[Access]) -> Result<Vec<Region>, AllocError>
     requires few { length accesses.now < 2 ^ 32 }
-    ensures { IfOk result (λ found. found.items ≡ filter has_cell (numbered 0 accesses.now)) }
+    ensures { IfOk result (λ found. found.items ≡ filter is_nonempty (numbered 0 accesses.now)) }
 {
     let mut found = Vec::with_capacity(alloc, accesses.len())?;
     for k in 0..accesses.len() {
@@ -122,7 +123,7 @@ fn filled_regions(alloc: Global, accesses: &[Access]) -> Result<Vec<Region>, All
 
 // Adds an access with its number, where it isn't empty.
 fn add_filled(found: &mut Vec<Region>, number: u32, access: &Access) -> Result<(), AllocError>
-    ensures { OnOk result (found.new.items ≡ found.old.items ++ filter has_cell (record { number = number; access = access.now } ∷ [])) }
+    ensures { OnOk result (found.new.items ≡ found.old.items ++ filter is_nonempty (record { number = number; access = access.now } ∷ [])) }
 {
     if access.span.len() != 0 {
         found.push(Region {

@@ -1,6 +1,7 @@
 //! What follows from the definitions alone.
 
-ghost use Rattle.task_local.specs.Laws.{LocalOperationsAreUnseen, FreshSpansAreOfMemory, SavedSpansAreOfCopy, OtherCellsStay, StatusesAreInARow};
+ghost use Rattle.task_local.specs.Laws.{LocalOperationsAreUnseen, FreshSpansAreOfMemory, SavedSpansAreOfCopy, OtherCellsStay};
+ghost use Rattle.task_local.specs.Laws.{StatusesAreInARow, ReleasedStatusesAreInARow};
 
 /// A record stands for its task after its local operations exactly where it does before them.
 pub fn local_operations()
@@ -21,4 +22,9 @@ pub fn saved_spans()
 /// Statuses that are stored one behind another, in a span that the task may write, are all their cells stored at once.
 pub fn statuses_in_a_row()
     ensures { StatusesAreInARow }
+{}
+
+/// Where handles store no cells, a release takes by them their statuses alone, in the order of the handles and one behind another.
+pub fn released_statuses_in_a_row()
+    ensures { ReleasedStatusesAreInARow }
 {}

@@ -135,10 +135,10 @@ impl TaskRec {
         save_regions(prog, def.rank, self.regions.as_slice(), &self.copy, memory);
     }
 
-    /// Sets where the task stands, to a phase that follows.
+    /// Sets where the task stands, to a phase that a call or a return may bring about.
     pub fn go(&mut self, prog: &Program, phase: Phase)
         requires same { prog.now ≡ self.old.program }
-        requires follows { GoesTo (def self.old) self.old.phase phase }
+        requires goes_to { GoesTo (def self.old) self.old.phase phase }
         ensures { self.new ≡ record self.old { phase = phase } }
     {
         let _ = prog;
