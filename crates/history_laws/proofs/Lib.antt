@@ -5,3 +5,4 @@ mod Noticing
 mod Notified
 mod Handles
 pub mod Starting
+pub mod Standing

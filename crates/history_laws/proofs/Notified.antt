@@ -34,15 +34,15 @@ use Rattle.history_laws.proofs.Tracing.{never, Traced, traced_end}
 use Rattle.history_laws.proofs.Noticing.{contains_cases, nothing_in, found_in, finds, named_below, IsPostedBy, BoundArePosted, bound_end}
 
 -- a move that posts nothing adds no notice
-record Quiet (s : State) (moved : Moved) : Type 0 where
-  same : moved.state.exchange ≡ s.exchange
-  none : moved.state.notices ≡ s.notices
+pub record Quiet (s : State) (moved : Moved) : Type 0 where
+  pub same : moved.state.exchange ≡ s.exchange
+  pub none : moved.state.notices ≡ s.notices
 
 -- a move that posts request m of its task notes the partner, where that is incomplete and expected
-record Notes (p : Program) (s : State) (u m : ℕ) (moved : Moved) : Type 0 where
-  cells : List ℤ
-  posts : moved.state.exchange ≡ post p s.exchange (request u m) cells
-  notes : moved.state.notices ≡ s.notices ++ noticed p s.tasks s.exchange (partner p s.exchange (request u m) cells)
+pub record Notes (p : Program) (s : State) (u m : ℕ) (moved : Moved) : Type 0 where
+  pub cells : List ℤ
+  pub posts : moved.state.exchange ≡ post p s.exchange (request u m) cells
+  pub notes : moved.state.notices ≡ s.notices ++ noticed p s.tasks s.exchange (partner p s.exchange (request u m) cells)
 
 post_notes : (p : Program) (s : State) (u : ℕ) (def : TaskDef) (was : Task) (k : ℕ) (blocking : Bool)
     → Notes p s u (nth_at def k) (post_move p s u def was k blocking)
@@ -60,7 +60,7 @@ call_notes p s u def was k (Some (op.Compute kind dst left right value step)) = 
 call_notes p s u def was k (Some (op.Post how span peer tag comm status)) = inr (post_notes p s u def was k (blocks how))
 call_notes p s u def was k (Some (op.Await later handles status)) = inl (await_quiet p s u def was k handles.items later)
 
-move_notes : (p : Program) (s : State) (u : ℕ) (def : TaskDef) (was : Task) (at : Phase)
+pub move_notes : (p : Program) (s : State) (u : ℕ) (def : TaskDef) (was : Task) (at : Phase)
     → Quiet s (move_at p s u def was at) ⊎ Notes p s u (posted_by_phase def at) (move_at p s u def was at)
 move_notes p s u def was phase.Waiting = inl (record { same = refl; none = refl })
 move_notes p s u def was (phase.At k) = call_notes p s u def was k (slice_get def.body.items k)
@@ -276,7 +276,7 @@ quiet_notes p s moved quiet = record {
 }
 
 -- after these postings a partner is completed
-completed : (p : Program) (s : State) (calls : List Posted) (req : ReqNo) (cells : List ℤ) (after_it : Exchange) → Traced p s calls
+pub completed : (p : Program) (s : State) (calls : List Posted) (req : ReqNo) (cells : List ℤ) (after_it : Exchange) → Traced p s calls
     → after_it ≡ post p s.exchange req cells
     → (o : Option ReqNo) → partner p s.exchange req cells ≡ o → (other : ReqNo) → o ≡ Some other → is_complete p after_it other ≡ true
 completed p s calls req cells after_it traced posts o is other some =

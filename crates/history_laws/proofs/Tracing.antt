@@ -229,8 +229,8 @@ apart_nth : (u m n : ℕ) → n ≢ m → same_request (request u m) (request u 
 apart_nth u m n other = never _ (λ same. other (sym (ap (λ (r : ReqNo). r.nth) (one_request (request u m) (request u n) same))))
 
 -- the state that the next move leads to is the one after its postings too
-record Adds (p : Program) (s : State) (calls : List Posted) (moved : Moved) : Type 0 where
-  traced : Traced p moved.state (calls ++ postings_by_entry p s moved.entry)
+pub record Adds (p : Program) (s : State) (calls : List Posted) (moved : Moved) : Type 0 where
+  pub traced : Traced p moved.state (calls ++ postings_by_entry p s moved.entry)
 
 -- the posting of a request with these cells
 abbrev pub posts_with : Program → List ℤ → ReqNo → Posted
@@ -362,7 +362,7 @@ unfolding step
 step_poll p s c calls above traced = rw (past c (length p.tasks.items) above) (poll_adds p s _ calls traced)
 
 -- a step of the machine
-step_adds : (p : Program) (w : ℕ) (s : State) (c : ℕ) (calls : List Posted) → MayStep p w s c → Traced p s calls → Adds p s calls (step p s c)
+pub step_adds : (p : Program) (w : ℕ) (s : State) (c : ℕ) (calls : List Posted) → MayStep p w s c → Traced p s calls → Adds p s calls (step p s c)
 step_adds p w s c calls may traced = elim may [
   | inl moves ↦
       let row = move_row p s c moves.def moves.task moves.task.phase moves.is_def moves.is_task refl in
@@ -401,7 +401,7 @@ requests_from p s (e ∷ entries) =
     ∙ ap (λ (rs : List ReqNo). posted_by_entry p e ++ rs) (requests_from p (step p s (caller (length p.tasks.items) e)).state entries)
     ∙ sym (flat_map-cons (posted_by_entry p) e entries)
 
-at_opening : (p : Program) → Traced p (opening p) []
+pub at_opening : (p : Program) → Traced p (opening p) []
 at_opening p = record {
   exchange = refl;
   new = tt;

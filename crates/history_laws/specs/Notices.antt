@@ -1,5 +1,5 @@
 -- Which notices the moves of tasks leave.
-use Rattle.std.specs.Prelude.{◌≡◌, ℕ, ◌<◌, ◌≤◌, ◌↔◌, true, false, ◌⊎◌, List, ◌++◌, length, slice_get, Contains, Some}
+use Rattle.std.specs.Prelude.{◌≡◌, ℕ, ◌+◌, ◌<◌, ◌≤◌, ◌↔◌, true, false, ◌⊎◌, List, ◌++◌, length, count_by, slice_get, Contains, Some, if◌then◌else◌}
 use Rattle.rt_base.specs.declared.data.ReqNo.{ReqNo}
 use Rattle.rt_base.specs.declared.data.Phase.{Phase}
 use Rattle.rt_base.specs.declared.data.Phase.TheVariants as phase
@@ -10,12 +10,13 @@ use Rattle.rt_base.specs.declared.data.Status.{Status}
 use Rattle.rt_base.specs.declared.data.Entry.{Entry}
 use Rattle.rt_base.specs.declared.data.Program.{Program}
 use Rattle.rt_base.specs.Operations.{WaitParts, wait_parts, nth_at, awaited}
+use Rattle.rt_base.specs.Matching.{same_request}
 use Rattle.rt_base.specs.Completion.{is_complete}
-use Rattle.rt_base.specs.State.{State, Task}
+use Rattle.rt_base.specs.State.{State, Task, opening}
 use Rattle.rt_base.specs.MayMove.{MayMove}
 use Rattle.rt_base.specs.WellFormed.{WellFormed}
 use Rattle.task_machine.specs.Machine.{move}
-use Rattle.task_machine.specs.Legal.{final, IsLegal}
+use Rattle.task_machine.specs.Legal.{final, state_of, IsDefined, IsLegal}
 
 -- a task that stands there is in an operation in which it waits for the request (MPI 4.0, 3.4 and 3.7.3)
 pub record IsAwaited (program : Program) (t : ℕ) (at : Phase) (req : ReqNo) : Type 0 where
@@ -61,3 +62,14 @@ MovesNoticeCompletions =
 -- so is it in every program that may be run
 abbrev pub WellFormedWaitsNamePosted : Type 0
 WellFormedWaitsNamePosted = (program : Program) → WellFormed program → WaitsNamePosted program
+
+-- how often a task is still to be told of the request, if it expects it: once while it is incomplete, and once for each notice of it that stands
+abbrev pub standing : Program → State → ReqNo → ℕ
+standing program state req =
+    count_by (same_request req) state.notices + (if is_complete program state.exchange req then 0 else 1)
+
+-- after a run each notice that stands is of a complete request, and stands once (TAMPI, completion by polling)
+abbrev pub NoticesStandOnce : Type 0
+NoticesStandOnce =
+    (program : Program) (workers : ℕ) (made_by : List ℕ) → IsDefined program workers (opening program) made_by
+    → (req : ReqNo) → standing program (state_of program made_by) req ≤ 1

@@ -3,7 +3,7 @@
 
 ghost use Rattle.history_laws.specs.Postings.{HistoriesPostInOrder, NothingMatchesAtTheEnd};
 ghost use Rattle.history_laws.specs.Order.{EachMatchIsPosted, HistoriesKeepMessages, HistoriesKeepReceives};
-ghost use Rattle.history_laws.specs.Notices.{MovesNoticeCompletions, WellFormedWaitsNamePosted};
+ghost use Rattle.history_laws.specs.Notices.{MovesNoticeCompletions, WellFormedWaitsNamePosted, NoticesStandOnce};
 ghost use Rattle.history_laws.specs.Starts.{TasksStartInOrder};
 
 use match_engine::{
@@ -54,6 +54,11 @@ pub fn receives_keep_their_order()
 /// and before it were bound to a task or awaited by one in its operation (TAMPI, completion by polling). The program's waits name posted requests.
 pub fn moves_notice_completions()
     ensures { MovesNoticeCompletions }
+{}
+
+/// After a run each notice that stands is of a complete request, and stands once (TAMPI, completion by polling).
+pub fn notices_stand_once()
+    ensures { NoticesStandOnce }
 {}
 
 /// In a program that may be run each wait names only requests that its body posts before it (MPI 4.0, 3.7.3).

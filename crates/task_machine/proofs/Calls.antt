@@ -1,6 +1,7 @@
 -- The calls and leaves of one operation along a run.
 use Rattle.std.proofs.Common.{◌≡◌, ◌≢◌, ℕ, ◌+◌, ◌<◌, ◌≤◌, Bool, true, false, ◌&&◌, cond, ◌⊎◌, List, [], ◌∷◌, length, drop, slice_get, slice_set, Option, Some, None, refl, sym, ap, ◌∙◌, subst, inl, inr, arith}
 use Rattle.std.specs.Prelude.{nat_eq, nat_lt, nat_le, count_by, not, ◌↔◌}
+use Rattle.std.proofs.lemmas.Bool.{false≢true}
 use Rattle.std.proofs.lemmas.Bool.Decides.{nat_tests}
 use Rattle.std.proofs.lemmas.Option.{slice_get_within}
 use Rattle.std.proofs.lemmas.List.Sums.{sum_by-cons}
@@ -57,6 +58,8 @@ record Account (p : Program) (t k : ℕ) (def : TaskDef) (x : Exchange) (at : Ph
   before : is_before k at ≡ true → (calls ≡ 0) × (leaves ≡ 0)
   within : is_within k at ≡ true → leaves ≡ 0
   once : leaves ≤ 1
+  blocks : is_within k at ≡ true → is_blocking_call (slice_get def.body.items k) ≡ true
+  never : is_blocking_call (slice_get def.body.items k) ≡ false → leaves ≡ 0
   done : is_blocking_call (slice_get def.body.items k) ≡ true → 1 ≤ calls → is_within k at ≡ false → (leaves ≡ 1) × AreComplete p x (awaited t def k)
 
 -- the same of a state
@@ -100,11 +103,14 @@ other_task : (u t j k : ℕ) → u ≢ t → (nat_eq u t && nat_eq j k) ≡ fals
 other_task u t j k e = rw (of_other u t e) refl
 
 -- nothing was called or left: so it is wherever the task stands
-fresh : (p : Program) (t k : ℕ) (def : TaskDef) (x : Exchange) (at : Phase) (m n : ℕ) → m ≡ 0 → n ≡ 0 → Account p t k def x at m n
-fresh p t k def x at m n no_call no_leave = record {
+fresh : (p : Program) (t k : ℕ) (def : TaskDef) (x : Exchange) (at : Phase) (m n : ℕ) → m ≡ 0 → n ≡ 0 → is_within k at ≡ false
+    → Account p t k def x at m n
+fresh p t k def x at m n no_call no_leave outside = record {
   before = λ _. (no_call, no_leave);
   within = λ _. no_leave;
   once = omega arith;
+  blocks = λ within. absurd (cc);
+  never = λ _. no_leave;
   done = λ _ called _. absurd (omega arith);
 }
 
@@ -130,10 +136,10 @@ unfolding stop
 stands_outside def k j = stop_outside k j (drop j def.body.items)
 
 -- requests that are complete stay complete
-abbrev Stays : Program → Exchange → Exchange → Type 0
+abbrev pub Stays : Program → Exchange → Exchange → Type 0
 Stays p x y = (q : ReqNo) → is_complete p x q ≡ true → is_complete p y q ≡ true
 
-all_stay : (p : Program) (x y : Exchange) (reqs : List ReqNo) → Stays p x y → AreComplete p x reqs → AreComplete p y reqs
+pub all_stay : (p : Program) (x y : Exchange) (reqs : List ReqNo) → Stays p x y → AreComplete p x reqs → AreComplete p y reqs
 all_stay p x y [] stays complete = tt
 all_stay p x y (req ∷ reqs) stays complete = (stays req complete.0, all_stay p x y reqs stays complete.1)
 
@@ -143,6 +149,8 @@ carried p t k def x y at m n stays a = record {
   before = a.before;
   within = a.within;
   once = a.once;
+  blocks = a.blocks;
+  never = a.never;
   done = λ blocking called outside. let d = a.done blocking called outside in (d.0, all_stay p x y (awaited t def k) stays d.1);
 }
 
@@ -151,15 +159,17 @@ record Leads (j : ℕ) (blocking : Bool) (at : Phase) : Type 0 where
   past : (k : ℕ) → is_before k at ≡ true → j < k
   inside : (k : ℕ) → is_within k at ≡ true → j ≡ k
   stays : blocking ≡ true → is_within j at ≡ true
+  blocks : is_within j at ≡ true → blocking ≡ true
 
 leads_in : (j : ℕ) → Leads j true (phase.In j)
-leads_in j = record { past = λ k e. less_of j k e; inside = λ k e. equal_of j k e; stays = λ _. of_equal j j refl }
+leads_in j = record { past = λ k e. less_of j k e; inside = λ k e. equal_of j k e; stays = λ _. of_equal j j refl; blocks = λ _. refl }
 
 leads_on : (def : TaskDef) (j : ℕ) → Leads j false (stop def (j + 1))
 leads_on def j = record {
   past = λ k e. let past = stands_past def k (j + 1) e in omega arith;
   inside = λ k e. let outside = stands_outside def k (j + 1) in absurd (cc);
   stays = λ e. absurd (cc);
+  blocks = λ e. let outside = stands_outside def j (j + 1) in absurd (cc);
 }
 
 -- after a call of operation j
@@ -175,6 +185,10 @@ called p t k def x y j o at m n here stays leads a = record {
       (flag_of t j k m (λ s. absurd (omega arith)) ∙ none.0, none.1);
   within = λ e. let same = leads.inside k e in (a.before (of_most j k (omega arith))).1;
   once = a.once;
+  blocks = λ e.
+      let same = leads.inside k e in
+      ap is_blocking_call (ap (slice_get def.body.items) (sym same) ∙ here) ∙ leads.blocks (ap (λ i. is_within i at) same ∙ e);
+  never = a.never;
   done = λ blocking calls outside. elim (either_place j k) [
     | inl same ↦
         let b : is_blocking_call o ≡ true = ap is_blocking_call (sym here ∙ ap (slice_get def.body.items) same) ∙ blocking in
@@ -201,6 +215,11 @@ left p t k def x j m n complete a = record {
         subst (λ c. c ≤ 1) (sym (ap (λ (b : Bool). more b n) (own_entry t j k same))) (omega arith)
     | inr other ↦ subst (λ c. c ≤ 1) (sym (flag_of t j k n other)) a.once
   ];
+  blocks = λ e. let outside = stands_outside def k (j + 1) in absurd (cc);
+  never = λ none. elim (either_place j k) [
+    | inl same ↦ absurd (false≢true (sym none ∙ a.blocks (of_equal j k same)))
+    | inr other ↦ flag_of t j k n other ∙ a.never none
+  ];
   done = λ blocking calls outside. elim (either_place j k) [
     | inl same ↦
         let none = a.within (of_equal j k same) in
@@ -219,6 +238,8 @@ gone p t k def x old new m n outside past within a = record {
   before = λ e. absurd (cc);
   within = λ e. absurd (cc);
   once = a.once;
+  blocks = λ e. absurd (cc);
+  never = a.never;
   done = λ blocking calls _. a.done blocking calls outside;
 }
 
@@ -226,7 +247,7 @@ gone p t k def x old new m n outside past within a = record {
 abbrev GoesOn : Program → ℕ → ℕ → TaskDef → ℕ → ℕ → Moved → Type 0
 GoesOn p t k def m n moved = Holds p t k def moved.state (more (is_call_of t k moved.entry) m) (more (is_leave_of t k moved.entry) n)
 
-set_here : (tasks : List Task) (t : ℕ) (was now : Task) → slice_get tasks t ≡ Some was → slice_get (slice_set tasks t now) t ≡ Some now
+pub set_here : (tasks : List Task) (t : ℕ) (was now : Task) → slice_get tasks t ≡ Some was → slice_get (slice_set tasks t now) t ≡ Some now
 set_here tasks t was now here = slice_get-set_same tasks t now (slice_get_within tasks t was here)
 
 -- a call by the task
@@ -278,7 +299,7 @@ own_goes : (p : Program) (s : State) (t k : ℕ) (def : TaskDef) (was : Task) (a
     → MayMoveAt p s.tasks s.exchange t def was at → Account p t k def s.exchange was.phase m n → GoesOn p t k def m n (move_at p s t def was at)
 own_goes p s t k def was phase.Waiting m n is_task at may a =
     let none = a.before (ap (is_before k) at) in
-    record { was = _; is_task = set_here s.tasks t was _ is_task; account = fresh p t k def s.exchange (stop def 0) m n none.0 none.1 }
+    record { was = _; is_task = set_here s.tasks t was _ is_task; account = fresh p t k def s.exchange (stop def 0) m n none.0 none.1 (stands_outside def k 0) }
 own_goes p s t k def was (phase.At j) m n is_task at may a = call_goes p s t k def was j m n (slice_get def.body.items j) is_task at refl a
 own_goes p s t k def was (phase.In j) m n is_task at may a = record {
   was = _;
@@ -298,11 +319,11 @@ own_goes p s t k def was phase.Returned m n is_task at may a = record {
 own_goes p s t k def was phase.Released m n is_task at may a = absurd may
 
 -- what a move of another task leaves alone
-record Aside (p : Program) (t k : ℕ) (s : State) (moved : Moved) : Type 0 where
-  task : slice_get moved.state.tasks t ≡ slice_get s.tasks t
-  stays : Stays p s.exchange moved.state.exchange
-  no_call : is_call_of t k moved.entry ≡ false
-  no_leave : is_leave_of t k moved.entry ≡ false
+pub record Aside (p : Program) (t k : ℕ) (s : State) (moved : Moved) : Type 0 where
+  pub task : slice_get moved.state.tasks t ≡ slice_get s.tasks t
+  pub stays : Stays p s.exchange moved.state.exchange
+  pub no_call : is_call_of t k moved.entry ≡ false
+  pub no_leave : is_leave_of t k moved.entry ≡ false
 
 post_aside : (p : Program) (s : State) (u t k : ℕ) (def : TaskDef) (was : Task) (j : ℕ) (blocking : Bool) → u ≢ t
     → Aside p t k s (post_move p s u def was j blocking)
@@ -335,7 +356,7 @@ call_aside p s u t k def was j (Some (op.Compute kind dst left right value step)
 call_aside p s u t k def was j (Some (op.Post how span peer tag comm status)) other = post_aside p s u t k def was j (blocks how) other
 call_aside p s u t k def was j (Some (op.Await later handles status)) other = await_aside p s u t k def was j handles.items later other
 
-move_aside : (p : Program) (s : State) (u t k : ℕ) (def : TaskDef) (was : Task) (at : Phase) → u ≢ t → Aside p t k s (move_at p s u def was at)
+pub move_aside : (p : Program) (s : State) (u t k : ℕ) (def : TaskDef) (was : Task) (at : Phase) → u ≢ t → Aside p t k s (move_at p s u def was at)
 move_aside p s u t k def was phase.Waiting other = record {
   task = slice_get-set_other s.tasks u t _ (λ e. other (sym e));
   stays = λ q e. e;
@@ -383,7 +404,7 @@ poll_aside : (p : Program) (t k : ℕ) (s : State) (poller : ℕ) → Aside p t 
 unfolding poll
 poll_aside p t k s poller = polled_aside p t k s poller s.notices
 
-step_aside : (p : Program) (t k : ℕ) (s : State) (c : ℕ) → length p.tasks.items ≤ c → Aside p t k s (step p s c)
+pub step_aside : (p : Program) (t k : ℕ) (s : State) (c : ℕ) → length p.tasks.items ≤ c → Aside p t k s (step p s c)
 unfolding step
 step_aside p t k s c past = rw (of_past c (length p.tasks.items) past) (poll_aside p t k s _)
 
@@ -445,7 +466,7 @@ at_opening : (p : Program) (t k : ℕ) (def : TaskDef) → slice_get p.tasks.ite
 at_opening p t k def is_def = record {
   was = waiting_task;
   is_task = at_replicate (length p.tasks.items) waiting_task t (slice_get_within p.tasks.items t def is_def);
-  account = fresh p t k def (opening p).exchange phase.Waiting 0 0 refl refl;
+  account = fresh p t k def (opening p).exchange phase.Waiting 0 0 refl refl refl;
 }
 
 -- the account of a legal history
@@ -463,6 +484,10 @@ pub left_once : (p : Program) (w : ℕ) (entries : List Entry) (statuses : List 
     → slice_get p.tasks.items t ≡ Some def
     → count_by (is_leave_of t k) entries ≤ 1
 left_once p w entries statuses legal t k def is_def = (of_history p w entries statuses legal t k def is_def).account.once
+
+pub others_not_left : (p : Program) (w : ℕ) (entries : List Entry) (statuses : List Status) → IsLegal p w entries statuses → (t k : ℕ) (def : TaskDef)
+    → slice_get p.tasks.items t ≡ Some def → is_blocking_call (slice_get def.body.items k) ≡ false → count_by (is_leave_of t k) entries ≡ 0
+others_not_left p w entries statuses legal t k def is_def none = (of_history p w entries statuses legal t k def is_def).account.never none
 
 -- a task that stands in an operation at a quiet end awaits a request that is incomplete
 within_in : (k : ℕ) (at : Phase) → is_within k at ≡ true → at ≡ phase.In k

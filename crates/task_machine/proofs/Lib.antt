@@ -7,3 +7,7 @@ pub mod Stops
 pub mod Calls
 pub mod Fronts
 pub mod Growth
+pub mod Owing
+pub mod Others
+pub mod Releasing
+pub mod Opened

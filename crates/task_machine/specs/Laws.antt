@@ -1,17 +1,20 @@
 -- What follows for every legal history, whoever makes it.
-use Rattle.std.specs.Prelude.{◌≡◌, ℕ, ◌≤◌, ◌↔◌, nat_eq, Bool, true, false, ◌&&◌, not, List, slice_get, count_by, Option, Some, None, take, ◌++◌}
+use Rattle.std.specs.Prelude.{◌≡◌, ℕ, ◌<◌, ◌≤◌, ◌↔◌, nat_eq, Bool, true, false, ◌&&◌, not, ◌⊎◌, List, [], ◌∷◌, slice_get, count_by, Option, Some, None, take, ◌++◌, length}
+use Rattle.rt_base.specs.declared.data.ReqNo.{ReqNo}
+use Rattle.rt_base.specs.declared.data.Phase.TheVariants as phase
 use Rattle.rt_base.specs.declared.data.Op.{Op}
 use Rattle.rt_base.specs.declared.data.TaskDef.{TaskDef}
 use Rattle.rt_base.specs.declared.data.Status.{Status}
 use Rattle.rt_base.specs.declared.data.Entry.{Entry}
 use Rattle.rt_base.specs.declared.data.Entry.TheVariants as entry
 use Rattle.rt_base.specs.declared.data.Program.{Program}
-use Rattle.rt_base.specs.Operations.{blocks, awaited, by_parts_of}
+use Rattle.rt_base.specs.Operations.{task_no, blocks, awaited, by_parts_of}
 use Rattle.rt_base.specs.MayMove.{AreComplete}
 use Rattle.rt_base.specs.Precedes.{LetGo, GoneMore, MayStart}
-use Rattle.rt_base.specs.State.{State, opening, let_go}
-use Rattle.task_machine.specs.Machine.{step, MayStep}
-use Rattle.task_machine.specs.Legal.{IsDefined, entries_after, callers, state_of, final, IsLegal, IsQuiet}
+use Rattle.rt_base.specs.State.{State, Task, opening, let_go}
+use Rattle.task_machine.specs.Machine.{move, poll, step, MayStep}
+use Rattle.task_machine.specs.Legal.{IsDefined, entries_after, caller, callers, state_of, final, IsLegal, IsQuiet}
+use Rattle.task_machine.specs.Owed.{opened, last_opened, IsIn, IsOwed}
 
 -- the operation is a call that blocks: a blocking send or receive, or a wait (MPI 4.0, 2.4.2, 3.4 and 3.7.3)
 abbrev pub is_blocking_call : Option Op → Bool
@@ -41,6 +44,13 @@ CallsAreLeftOnce =
     (program : Program) (workers : ℕ) (entries : List Entry) (statuses : List Status) → IsLegal program workers entries statuses
     → (t k : ℕ) (def : TaskDef) → slice_get program.tasks.items t ≡ Some def
     → count_by (is_leave_of t k) entries ≤ 1
+
+-- an operation that doesn't block is never left: an `iwait` or `iwaitall`, a posting that doesn't block (MPI 4.0, 3.7.2; TAMPI, TAMPI_Iwait)
+abbrev pub OthersAreNotLeft : Type 0
+OthersAreNotLeft =
+    (program : Program) (workers : ℕ) (entries : List Entry) (statuses : List Status) → IsLegal program workers entries statuses
+    → (t k : ℕ) (def : TaskDef) → slice_get program.tasks.items t ≡ Some def
+    → is_blocking_call (slice_get def.body.items k) ≡ false → count_by (is_leave_of t k) entries ≡ 0
 
 -- at a quiet end a blocking call that was made was left exactly where all the requests that it awaits are complete
 abbrev pub CompleteCallsAreLeft : Type 0
@@ -78,3 +88,36 @@ abbrev pub StepsLetGo : Type 0
 StepsLetGo =
     (program : Program) (workers : ℕ) (state : State) (who : ℕ) → MayStep program workers state who
     → GoneMore (let_go state.tasks) (let_go (step program state who).state.tasks)
+
+-- nothing is owed after a move but what was owed before it or what the move opened (TAMPI, completion by polling); it holds in every state
+abbrev pub MovesOweWhatTheyOpened : Type 0
+MovesOweWhatTheyOpened =
+    (program : Program) (state : State) (t : ℕ) (req : ReqNo)
+    → IsOwed program (move program state t).state req → IsOwed program state req ⊎ IsIn req (opened program state t)
+
+-- a history that goes on by the move of a task opened last what that move opens, and one that goes on by a poll what it opened before (this project's)
+abbrev pub LastMoveOpens : Type 0
+LastMoveOpens =
+    (program : Program) (entries : List Entry) (t : ℕ) (more : Entry) → t < length program.tasks.items → caller (length program.tasks.items) more ≡ t
+    → last_opened program (entries ++ more ∷ []) ≡ opened program (final program entries) t
+
+abbrev pub PollsOpenNothing : Type 0
+PollsOpenNothing =
+    (program : Program) (entries : List Entry) (poller : ℕ) (req : ReqNo)
+    → last_opened program (entries ++ entry.Poll poller req ∷ []) ≡ last_opened program entries
+
+-- nothing is owed after a poll but what was owed before it (TAMPI, completion by polling)
+abbrev pub PollsOweNothingNew : Type 0
+PollsOweNothingNew =
+    (program : Program) (state : State) (poller : ℕ) (req : ReqNo) → IsOwed program (poll state poller).state req → IsOwed program state req
+
+-- the operation is a call that opens what it waits for or binds: a posting that blocks, or a wait (MPI 4.0, 3.4, 3.7.3 and 3.7.5; TAMPI, TAMPI_Iwait)
+abbrev pub is_call_that_opens : Option Op → Bool
+is_call_that_opens operation = by_parts_of false (λ posted. blocks posted.how) (λ waited. true) operation
+
+-- the entry of such a call tells how many requests it opened
+abbrev pub CallsTellWhatTheyOpened : Type 0
+CallsTellWhatTheyOpened =
+    (program : Program) (state : State) (t k : ℕ) (def : TaskDef) (task : Task) → slice_get program.tasks.items t ≡ Some def
+    → slice_get state.tasks t ≡ Some task → task.phase ≡ phase.At k → is_call_that_opens (slice_get def.body.items k) ≡ true
+    → (move program state t).entry ≡ entry.Call (task_no t) k (length (opened program state t))

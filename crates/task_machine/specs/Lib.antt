@@ -3,3 +3,4 @@ pub mod Legal
 pub mod Course
 pub mod Owed
 pub mod Laws
+pub mod RunLaws
