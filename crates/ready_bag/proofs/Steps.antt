@@ -1,7 +1,7 @@
 -- A put and a take keep the rule.
 use Rattle.std.proofs.Common.{◌≡◌, ◌≢◌, ◌==◌, ℕ, zero, suc, ◌+◌, ◌<◌, ◌≤◌, Bool, true, false, true≢false, cond, nat_lt, List, [], ◌∷◌, ◌++◌, length, map, set, inl, inr, ⊎_elim, Option, Some, None, MatchOption, IfSome, sym, refl, ap, ◌∙◌, subst, arith, eq-eqb, ltb-true}
 use Rattle.std.specs.List.{All, count_by}
-use Rattle.std.proofs.lemmas.List.Elements.{All-nil, All-cons, All-head, All-tail, All-push, All-weaker}
+use Rattle.std.proofs.lemmas.List.Elements.{All-nil, All-cons, All-head, All-tail, All-push}
 use mathlib.Core.Option.{some, some-injective, some-ne-none}
 use lib.ListN.{get_elem?}
 use Rattle.crossbeam_queue.specs.Fifo.{Pushes, Pops, Learns}
@@ -10,7 +10,7 @@ use Rattle.ready_bag.specs.declared.account.Numbered.{Numbered}
 use Rattle.ready_bag.specs.declared.account.Account.{Account}
 use Rattle.ready_bag.specs.declared.account.Knows.{Knows}
 use Rattle.ready_bag.specs.Past.{Past, Leaves, Fits, MayHold, NumbersRise, HasTaken, with_put, with_taken}
-use Rattle.ready_bag.specs.Rule.{undealt, in_charge, account_of, is_owner, charge, charges, IsDealt, IsRuled, Puts, Takes, MayLie}
+use Rattle.ready_bag.specs.Rule.{undealt, in_charge, account_of, is_owner, charge, charges, IsDealt, IsRuled, Puts, Takes, IsKept, Lay}
 use Rattle.ready_bag.proofs.Sums.{sum_by_set, one_within, two_within, none_counts, count_one}
 use Rattle.ready_bag.proofs.Pasts.{put_in, leaves_put, fits_put_own, fits_put_other, taken_out, leaves_take, fits_take_own, fits_take_other, oldest, rising}
 
@@ -138,22 +138,38 @@ module _ {T : Type 0} where
         )
   ]
 
-  learns_at : (port : ℕ) (a : Account T) → Learns IsRuled port (in_charge (a ∷ [])) (MayLie (in_charge (a ∷ [])))
+  learns_at : (port : ℕ) (a : Account T) → Learns IsRuled port (in_charge (a ∷ [])) (MayHold a)
   learns_at port a items views rule at = elim rule [
     | inl before ↦ absurd (not_undealt views port (in_charge (a ∷ [])) before.1 at refl)
-    | inr after ↦ All-weaker (λ c. Fits after.0 c
-        × (c.owners ≡ after.1)) (λ c. MayHold c items) (λ c fits.
-        record { past = after.0; leaves = after.2.leaves; fits = fits.0 }) (a ∷ []) (after.2.fits port (in_charge (a ∷ [])) at)
+    | inr after ↦
+        let past = after.0 in
+        let mine : Fits past a × (a.owners ≡ after.1) =
+        All-head (λ c. Fits past c × (c.owners ≡ after.1)) a [] (after.2.fits port (in_charge (a ∷ [])) at) in
+        record {
+          past = past;
+          leaves = after.2.leaves;
+          fits = mine.0;
+          putters = subst (λ (n : ℕ). All (λ put. put.owner < n) past.puts) (sym mine.1) after.2.putters;
+          takers = subst (λ (n : ℕ). All (λ taker. taker < n) past.takers) (sym mine.1) after.2.takers;
+        }
   ]
 
-  pub puts : (n port : ℕ) (v : Knows T) (x : T) (a : Account T) → v ≡ in_charge (a ∷ []) → Pushes IsRuled n port v x (Puts v x)
-  puts n port v x a is = subst (λ (u : Knows T). Pushes IsRuled n port u x (Puts u x)) (sym is) (puts_at n port x a)
+  -- the rule of a bag is kept
+  pub fair : IsKept {T = T} IsRuled
+  fair = record { puts = λ n port a x. puts_at n port x a; takes = takes_at; tells = learns_at }
 
-  pub takes : (port : ℕ) (v : Knows T) (a : Account T) → v ≡ in_charge (a ∷ []) → Pops IsRuled port v (Takes v)
-  takes port v a is = subst (λ (u : Knows T). Pops IsRuled port u (Takes u)) (sym is) (takes_at port a)
+  module _ (holds : List T → List (Knows T) → Type 0) (kept : IsKept holds) where
+    shows : (port : ℕ) (a : Account T) → Learns holds port (in_charge (a ∷ [])) (Lay holds a)
+    shows port a items views rule at = record { views = views; port = port; told = rule; own = at; may = kept.tells port a items views rule at }
 
-  pub learns : (port : ℕ) (v : Knows T) (a : Account T) → v ≡ in_charge (a ∷ []) → Learns IsRuled port v (MayLie v)
-  learns port v a is = subst (λ (u : Knows T). Learns IsRuled port u (MayLie u)) (sym is) (learns_at port a)
+    pub puts : (n port : ℕ) (v : Knows T) (x : T) (a : Account T) → v ≡ in_charge (a ∷ []) → Pushes holds n port v x (Puts v x)
+    puts n port v x a is = subst (λ (u : Knows T). Pushes holds n port u x (Puts u x)) (sym is) (kept.puts n port a x)
+
+    pub takes : (port : ℕ) (v : Knows T) (a : Account T) → v ≡ in_charge (a ∷ []) → Pops holds port v (Takes v)
+    takes port v a is = subst (λ (u : Knows T). Pops holds port u (Takes u)) (sym is) (kept.takes port a)
+
+    pub learns : (port : ℕ) (v : Knows T) (a : Account T) → v ≡ in_charge (a ∷ []) → Learns holds port v (Lay holds (account_of v))
+    learns port v a is = subst (λ (u : Knows T). Learns holds port u (Lay holds (account_of u))) (sym is) (shows port a)
 
   -- what a take tells of the account
   taken_one : (v w : Knows T) (a : Account T) (x : T) → v ≡ in_charge (a ∷ []) → Takes v x w → HasTaken a (account_of w) x

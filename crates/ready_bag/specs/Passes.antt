@@ -5,7 +5,9 @@ use Rattle.crossbeam_queue.specs.Fifo.{Held}
 use Rattle.ready_bag.specs.declared.account.Account.{Account}
 use Rattle.ready_bag.specs.declared.counts.Counts.{Counts}
 use Rattle.ready_bag.specs.Counts.{no_counts}
-use Rattle.ready_bag.specs.Past.{MayHold, new_account}
+use Rattle.ready_bag.specs.declared.account.Knows.{Knows}
+use Rattle.ready_bag.specs.Past.{new_account}
+use Rattle.ready_bag.specs.Rule.{Lay}
 
 -- which queue it is, how many items it can hold, and how many passes were made with it (this project's)
 pub record BagIs : Type 0 where
@@ -28,13 +30,13 @@ module _ {T : Type 0} where
     pub table : pass.table ≡ bag.table
     pub workers : pass.account.owners ≡ bag.workers
 
-  -- the queue held its capacity at one moment of the call: items that may have lain there for all that the pass knows
-  abbrev pub HeldAll : BagIs → PassIs T → Type 0
-  HeldAll bag pass = Held bag.capacity (MayHold pass.account)
+  -- the queue held its capacity at a step of this pass with this account: the queue's rule says so, and these items fit the account
+  abbrev pub HeldAll : (List T → List (Knows T) → Type 0) → BagIs → PassIs T → Type 0
+  HeldAll rule bag pass = Held bag.capacity (Lay rule pass.account)
 
-  -- the queue held nothing at one moment of the call, which may be so for all that the pass knows
-  abbrev pub HeldNone : PassIs T → Type 0
-  HeldNone pass = Held 0 (MayHold pass.account)
+  -- the queue held nothing at a step of this pass with this account, which its rule says
+  abbrev pub HeldNone : (List T → List (Knows T) → Type 0) → PassIs T → Type 0
+  HeldNone rule pass = Held 0 (Lay rule pass.account)
 
   -- the pass of this worker, which has put and taken nothing
   abbrev pub new_pass : BagIs → ℕ → PassIs T

@@ -1,6 +1,6 @@
 -- What has happened to a bag, or to one part of it, that gives its items first in first out.
 use Rattle.std.specs.Prelude.{◌≡◌, ℕ, ◌<◌, ◌≤◌, ◌==◌, Bool, cond, List, [], ◌∷◌, ◌++◌, length, map, filter, drop, count_by}
-use Rattle.std.specs.List.{AllPairs}
+use Rattle.std.specs.List.{All, AllPairs}
 use Rattle.ready_bag.specs.declared.account.Numbered.{Numbered}
 use Rattle.ready_bag.specs.declared.account.Account.{Account}
 
@@ -48,6 +48,9 @@ module _ {T : Type 0} where
     pub past : Past T
     pub leaves : Leaves past items
     pub fits : Fits past account
+    -- no one but the owners has put or taken
+    pub putters : All (λ put. put.owner < account.owners) past.puts
+    pub takers : All (λ taker. taker < account.owners) past.takers
 
   -- of two items of one owner the later has the greater number
   abbrev pub NumbersRise : List (Numbered T) → Type 0

@@ -1,6 +1,7 @@
--- The rule of the queue: of what it holds, and of what each pass knows. No public clause cites this module.
+-- The rule of the queue: of what it holds, and of what each pass knows. Clauses cite `Lay`, and the bag's invariant `IsKept`.
 use Rattle.std.specs.Prelude.{◌≡◌, ℕ, zero, suc, ◌-◌, ◌^◌, ◌<◌, ◌==◌, min, ◌⊎◌, Bool, true, false, cond, nat_lt, List, [], ◌∷◌, length, map, count_by, sum_by}
 use Rattle.std.specs.List.{All}
+use Rattle.crossbeam_queue.specs.Fifo.{Pushes, Pops, Learns}
 use mathlib.Core.Option.{some}
 use lib.ListN.{get_elem?}
 use Rattle.ready_bag.specs.declared.counts.Counts.{Counts}
@@ -72,6 +73,19 @@ module _ {T : Type 0} where
   abbrev pub Takes : Knows T → T → Knows T → Type 0
   Takes v item w = (taken : Numbered T) × (taken.item ≡ item) × (w ≡ in_charge (map (with_taken taken) v.accounts)) × All (λ a. NumbersRise a.took) w.accounts
 
-  -- what lay in the queue may have lain there for all that each account tells
-  abbrev pub MayLie : Knows T → List T → Type 0
-  MayLie v items = All (λ a. MayHold a items) v.accounts
+module _ {T : Type 0} (holds : List T → List (Knows T) → Type 0) where
+  -- puts and takes keep this rule of a queue, and what it tells a pass with one account may have lain there for all that the account tells. Nothing
+  -- here or in the bag's invariant tells of another pass: by that a body could show a full or an empty queue without a step on it
+  pub record IsKept : Type 0 where
+    pub puts : (capacity port : ℕ) (account : Account T) (item : T) →
+        Pushes holds capacity port (in_charge (account ∷ [])) item (Puts (in_charge (account ∷ [])) item)
+    pub takes : (port : ℕ) (account : Account T) → Pops holds port (in_charge (account ∷ [])) (Takes (in_charge (account ∷ [])))
+    pub tells : (port : ℕ) (account : Account T) → Learns holds port (in_charge (account ∷ [])) (MayHold account)
+
+  -- these items lay in the queue at a step of a pass with this account: the queue's rule says so; and they may have, for all that the account tells
+  pub record Lay (account : Account T) (items : List T) : Type 0 where
+    pub views : List (Knows T)
+    pub port : ℕ
+    pub told : holds items views
+    pub own : get_elem? views port ≡ some (in_charge (account ∷ []))
+    pub may : MayHold account items

@@ -12,28 +12,31 @@ use crate::bag::ReadyBag;
 use crate::counts::Counts;
 use crate::pass::QueuePass;
 use crate::rule::{Adds, Counting, Deals, Fair, Opens, Removes};
+use crossbeam_queue::protocol::Protocol;
 use crossbeam_queue::{Pass, RuledArrayQueue};
 use std::alloc::{AllocError, Global};
 use std::marker::{Brand, Model};
 use std::sync::Wait;
 
 /// A bag of at most `capacity` items, which gives them first in first out. Contracts see which queue it is, its capacity,
-/// and with how many passes it was made.
+/// and with how many passes it was made. `build` makes it under the rule `Fair`. Puts and takes are proved for every rule that they
+/// keep, of which they know nothing else: so an answer that tells what lay in the queue comes from a step on it.
 #[derive(Drop)]
-pub struct QueueBag<T> {
-    pub(crate) queue: RuledArrayQueue<T, Knows<T>, Fair>,
+pub struct QueueBag<T, P: Protocol<T, Knows<T>> = Fair> {
+    pub(crate) queue: RuledArrayQueue<T, Knows<T>, P>,
     pub(crate) workers: u16,
 }
 
-impl<T> Model for QueueBag<T> {
+impl<T, P: Protocol<T, Knows<T>>> Model for QueueBag<T, P> {
     ghost use Rattle.std.specs.Prelude.{◌<◌};
     ghost use Rattle.ready_bag.specs.Passes.{BagIs};
+    ghost use Rattle.ready_bag.specs.Rule.{IsKept};
 
     ghost Value = { BagIs };
 
     ghost view = { λ b. record { table = b.queue.table.shared.table_id; capacity = b.queue.cap; workers = b.workers } };
 
-    ghost invariant = { λ b. 0 < b.workers };
+    ghost invariant = { λ b. (0 < b.workers) × IsKept P.holds };
 }
 
 impl<T: Drop> QueueBag<T> {
@@ -116,28 +119,28 @@ impl<T: Drop> QueueBag<T> {
     }
 }
 
-impl<T> ReadyBag<T> for QueueBag<T> {
+impl<T, P: Protocol<T, Knows<T>>> ReadyBag<T> for QueueBag<T, P> {
     type Pass = QueuePass<T>;
 
     ghost IsOf = { IsPassOfBag };
 
     ghost counts = { λ pass. pass.counts };
 
-    ghost WasFull = { HeldAll };
+    ghost WasFull = { HeldAll P.holds };
 
-    ghost WasEmpty = { λ _ pass. HeldNone pass };
+    ghost WasEmpty = { λ _ pass. HeldNone P.holds pass };
 
     fn put<R: Wait>(&self, rt: &R, pass: &mut QueuePass<T>, item: T) -> Result<(), T>
         requires { IsPassOfBag pass.old self.now }
         ensures home { IsPassOfBag pass.new self.now }
         ensures ok { OnOk result (PutsRose pass.old.counts pass.new.counts) }
         ensures err { OnErr result (FullsRose pass.old.counts pass.new.counts) }
-        ensures full { OnErr result (HeldAll self.now pass.old) }
+        ensures full { OnErr result (HeldAll P.holds self.now pass.old) }
         ensures back { IfErr result (λ back. back ≡ item) }
         ensures put { OnOk result (pass.new.account ≡ with_put item pass.old.account) }
         ensures unchanged { OnErr result (pass.new.account ≡ pass.old.account) }
     {
-        let answer = self.queue.push_as::<Adds, R>(rt, &mut pass.seat, item);
+        let answer = self.queue.push_as::<Adds<P>, R>(rt, &mut pass.seat, item);
         match &answer {
             Ok(()) => pass.counts.puts = pass.counts.puts.saturating_add(1),
             Err(_) => pass.counts.fulls = pass.counts.fulls.saturating_add(1),
@@ -150,11 +153,11 @@ impl<T> ReadyBag<T> for QueueBag<T> {
         ensures home { IsPassOfBag pass.new self.now }
         ensures some { IfSome result (λ _. TakesRose pass.old.counts pass.new.counts) }
         ensures none { IfNone result (EmptiesRose pass.old.counts pass.new.counts) }
-        ensures empty { IfNone result (HeldNone pass.old) }
+        ensures empty { IfNone result (HeldNone P.holds pass.old) }
         ensures taken { IfSome result (HasTaken pass.old.account pass.new.account) }
         ensures unchanged { IfNone result (pass.new.account ≡ pass.old.account) }
     {
-        let answer = self.queue.pop_as::<Removes, R>(rt, &mut pass.seat);
+        let answer = self.queue.pop_as::<Removes<P>, R>(rt, &mut pass.seat);
         match &answer {
             Some(_) => pass.counts.takes = pass.counts.takes.saturating_add(1),
             None => pass.counts.empties = pass.counts.empties.saturating_add(1),

@@ -1,7 +1,7 @@
 //! The rule of the queue, and what each step on it tells its pass.
 
 ghost use Rattle.std.specs.Prelude.{◌≡◌, ℕ, [], ◌++◌, length, take, drop};
-ghost use Rattle.ready_bag.specs.Rule.{undealt, in_charge, new_accounts, IsRuled, Puts, Takes, MayLie};
+ghost use Rattle.ready_bag.specs.Rule.{undealt, in_charge, account_of, new_accounts, IsRuled, Puts, Takes, Lay};
 ghost use Rattle.ready_bag.specs.Closing.{AreAll};
 
 use crate::account::Knows;
@@ -56,26 +56,30 @@ impl<T> Join<Knows<T>> for Gathers {
     ghost spent = { in_charge [] };
 }
 
-// An item joins at the back; where there is no room, what lay there may have lain there.
-pub struct Adds;
+// An item joins at the back; where there is no room, what lay there is told.
+pub struct Adds<P> {
+    rule: PhantomData<P>,
+}
 
-impl<T> Outcome<T, Knows<T>> for Adds {
+impl<T, P> Outcome<T, Knows<T>> for Adds<P> {
     ghost then = { Puts };
 }
 
-impl<T> Lesson<T, Knows<T>> for Adds {
-    ghost fact = { MayLie };
+impl<T, P: Protocol<T, Knows<T>>> Lesson<T, Knows<T>> for Adds<P> {
+    ghost fact = { λ v. Lay P.holds (account_of v) };
 }
 
-// An item leaves at the front; where there is none, nothing may have lain there.
-pub struct Removes;
+// An item leaves at the front; where there is none, that nothing lay there is told.
+pub struct Removes<P> {
+    rule: PhantomData<P>,
+}
 
-impl<T> Outcome<T, Knows<T>> for Removes {
+impl<T, P> Outcome<T, Knows<T>> for Removes<P> {
     ghost then = { Takes };
 }
 
-impl<T> Lesson<T, Knows<T>> for Removes {
-    ghost fact = { MayLie };
+impl<T, P: Protocol<T, Knows<T>>> Lesson<T, Knows<T>> for Removes<P> {
+    ghost fact = { λ v. Lay P.holds (account_of v) };
 }
 
 // A pass in charge of all accounts knows what is left.

@@ -3,7 +3,7 @@ use Rattle.std.proofs.lemmas.List.Elements.{All-rest}
 use Rattle.crossbeam_queue.specs.Passes.{view}
 use Rattle.ready_bag.specs.Passes.{IsPassOfBag}
 use Rattle.ready_bag.proofs.Together.{gathered_more, counted_more}
-use Rattle.ready_bag.proofs.queue_bag.QueueBag.gather.Goals as goal
+use Rattle.ready_bag.proofs.close.QueueBag+T.gather.Goals as goal
 
 pub loop-pass-preserved : goal.loop-pass-preserved
 loop-pass-preserved g c =

@@ -4,7 +4,7 @@ use Rattle.crossbeam_queue.specs.Passes.{view}
 use Rattle.ready_bag.specs.Closing.{count_put, count_taken}
 use Rattle.ready_bag.specs.Passes.{IsPassOfBag, account}
 use Rattle.ready_bag.specs.Rule.{in_charge}
-use Rattle.ready_bag.proofs.queue_bag.QueueBag.gather.Given as goal
+use Rattle.ready_bag.proofs.close.QueueBag+T.gather.Given as goal
 
 abbrev pub decreases-loop-pass : goal.decreases-loop-pass
 decreases-loop-pass g l = deque_len l.rest

@@ -1,4 +1,4 @@
-use Rattle.ready_bag.proofs.queue_bag.QueueBag.build.Given as goal
+use Rattle.ready_bag.proofs.queue_bag.QueueBag+T.build.Given as goal
 
 abbrev pub ghosts-named : goal.ghosts-named
 ghosts-named g a = record { count = a.workers }

@@ -2,7 +2,7 @@ use Rattle.std.proofs.Common.{◌≡◌, ◌-◌, []}
 use Rattle.crossbeam_queue.specs.Passes.{view}
 use Rattle.ready_bag.specs.Passes.{new_passes}
 use Rattle.ready_bag.specs.Rule.{in_charge, new_accounts}
-use Rattle.ready_bag.proofs.queue_bag.QueueBag.deal.Given as goal
+use Rattle.ready_bag.proofs.queue_bag.QueueBag+T.deal.Given as goal
 
 abbrev pub invariant-loop-worker : goal.invariant-loop-worker
 invariant-loop-worker g l = record {

@@ -4,7 +4,7 @@ use Rattle.ready_bag.specs.Closing.{count_put, count_taken}
 use Rattle.ready_bag.specs.Passes.{IsPassOfBag, account}
 use Rattle.ready_bag.specs.Rule.{in_charge}
 use Rattle.ready_bag.proofs.Together.{counts_all, closes}
-use Rattle.ready_bag.proofs.queue_bag.QueueBag.close.Goals as goal
+use Rattle.ready_bag.proofs.close.QueueBag+T.close.Goals as goal
 
 pub gather-all-requires-clause-rest : goal.gather-all-requires-clause-rest
 gather-all-requires-clause-rest g c = All-rest (λ pass. IsPassOfBag pass c.args.self) _ _ _ (sym c.from_vec-rest.ensures.items
@@ -14,7 +14,7 @@ pub len_as-left-requires-clause-rule : goal.len_as-left-requires-clause-rule
 len_as-left-requires-clause-rule g c =
     let passes = sym c.from_vec-rest.ensures.items ∙ c.in-Some.ensures.items in
     counts_all _ _ c.args.passes.items c.args.self (c.gather-all.ensures.accounts ∙ ap (λ l. in_charge (map account l)) (sym passes))
-    (subst (λ n. 0 < n) (ap (λ b. b.workers) c.self.view_is) c.self.invariant) c.requires.all c.requires.passes
+    (subst (λ n. 0 < n) (ap (λ b. b.workers) c.self.view_is) c.self.invariant.0) c.requires.all c.requires.passes
 
 pub returns : goal.returns
 returns g c =
