@@ -1,0 +1,4 @@
+mod Handles
+mod Samples
+mod Spans
+pub mod Marking

@@ -1,0 +1,3 @@
+pub mod StatusSpans
+pub mod MarkedRows
+pub mod Laws
