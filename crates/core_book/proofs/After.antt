@@ -16,7 +16,7 @@ use Rattle.rt_base.specs.MayMove.{MayMove}
 use Rattle.task_machine.specs.Machine.{move}
 use Rattle.task_machine.specs.Legal.{caller}
 use Rattle.task_machine.specs.Course.{moves_left, posted_by_phase}
-use Rattle.core_book.specs.Kept.{IsTidy}
+use Rattle.core_book.specs.Kept.{IsInBlocking, IsTidy, postings_left, to_tell}
 use Rattle.task_machine.proofs.Lists.{slice_get-set_same, slice_get-set_other}
 
 -- what a move of task t changes, and what it keeps: all that a book needs to know of it
@@ -34,8 +34,9 @@ pub record Changes (p : Program) (s : State) (t : ℕ) (def : TaskDef) (was now 
   pub later : posted_by_phase def was.phase ≤ posted_by_phase def now.phase
   pub posted : (u n : ℕ) → is_posted new.exchange (request u n) ≡ true
       → (is_posted s.exchange (request u n) ≡ true) ⊎ ((u ≡ t) × (n < posted_by_phase def now.phase))
-  pub told : length new.statuses ≤ length s.statuses + 1
-  pub noticed : length new.notices ≤ length s.notices + 1
+  pub blocking : IsInBlocking def now.phase
+  pub told : length new.statuses + to_tell def now.phase ≤ length s.statuses + to_tell def was.phase
+  pub noticed : length new.notices + postings_left def now.phase ≤ length s.notices + postings_left def was.phase
 
 -- a place that is either the written one or another
 either_place : (u t : ℕ) → (u ≡ t) ⊎ (u ≢ t)
@@ -98,6 +99,12 @@ tidy_after p s t def was now new e kept c = record {
   unbound = λ u task here. elim (task_after s.tasks t u was now task c.is_task (sym (ap (λ (xs : List Task). slice_get xs u) c.tasks) ∙ here)) [
     | inl mine ↦ (ap (λ (x : Task). x.named) mine.1 ∙ c.unbound.0, ap (λ (x : Task). x.bound) mine.1 ∙ c.unbound.1)
     | inr other ↦ kept.unbound u task other.1
+  ];
+  blocking = λ u d task is_def here. elim (task_after s.tasks t u was now task c.is_task (sym (ap (λ (xs : List Task). slice_get xs u) c.tasks) ∙ here)) [
+    | inl mine ↦
+        let one : d ≡ def = some_same (sym is_def ∙ ap (slice_get p.tasks.items) mine.0 ∙ c.is_def) in
+        rw (one, mine.1) c.blocking
+    | inr other ↦ kept.blocking u d task is_def other.1
   ];
   posted = λ u n d task is_def here posted. posted_after p s t u n def d was now task new e kept c is_def
       (task_after s.tasks t u was now task c.is_task (sym (ap (λ (xs : List Task). slice_get xs u) c.tasks) ∙ here)) (c.posted u n posted);

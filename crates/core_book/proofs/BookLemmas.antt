@@ -1,5 +1,5 @@
 -- A new book, and a book that hands out a task.
-use Rattle.std.proofs.Common.{◌≡◌, ℕ, zero, suc, ◌^◌, ◌<◌, ◌≤◌, Bool, true, false, List, [], ◌∷◌, length, map, slice_get, slice_set, Some, None, Option, IfSome, IfNone, refl, sym, ap, ◌∙◌, subst, arith}
+use Rattle.std.proofs.Common.{◌≡◌, ℕ, zero, suc, ◌+◌, ◌^◌, ◌<◌, ◌≤◌, Bool, true, false, List, [], ◌∷◌, length, map, slice_get, slice_set, Some, None, Option, IfSome, IfNone, refl, sym, ap, ◌∙◌, subst, arith}
 use Rattle.std.specs.Prelude.{pos, replicate}
 use Rattle.rt_base.specs.declared.data.TaskNo.{TaskNo}
 use Rattle.rt_base.specs.declared.data.ReqNo.{ReqNo}
@@ -12,13 +12,15 @@ use Rattle.rt_base.specs.Layout.{memory_len}
 use Rattle.rt_base.specs.Precedes.{LetGo, MayStart}
 use Rattle.rt_base.specs.Exchange.{silent}
 use Rattle.rt_base.specs.State.{State, Task, opening, waiting_task, is_released, let_go}
-use Rattle.rt_base.specs.WellFormed.{WellFormed}
+use Rattle.rt_base.specs.WellFormed.{WellFormed, over_operations}
 use Rattle.region_deps.specs.Readiness.{Readiness, IsWhole, IsStartable, none_handed_out}
+use Rattle.rt_base.specs.declared.data.TaskDef.{TaskDef}
 use Rattle.task_machine.specs.Course.{most_moves}
+use Rattle.task_machine.specs.Owed.{last_opened}
 use Rattle.core_book.specs.Ledger.{Ledger, IsReady}
-use Rattle.core_book.specs.Kept.{Shelf, KeepsState, state_now, left_of}
+use Rattle.core_book.specs.Kept.{Shelf, HasRooms, KeepsState, entries_left, most_postings, opens, postings_left, state_now, tells, to_tell}
 use Rattle.core_book.proofs.Opening.{opening_tidy, in_replicate, map-replicate}
-use Rattle.core_book.proofs.Few.{few_moves, all_left_at_opening}
+use Rattle.core_book.proofs.Rooms.{entries_first, few_told_at_first, postings_first, room_first, told_first}
 use Rattle.core_book.proofs.Moved.{ledger_of}
 use Rattle.core_book.proofs.Questions.{gone_of}
 
@@ -34,23 +36,34 @@ pub record IsNew (shelf : Shelf) : Type 0 where
   pub notices_are : shelf.notices ≡ []
   pub entries_are : shelf.entries ≡ []
   pub statuses_are : shelf.statuses ≡ []
-  pub entry_places : most_moves shelf.program.tasks.items ≤ shelf.entry_places
-  pub status_places : most_moves shelf.program.tasks.items ≤ shelf.status_places
-  pub notice_places : most_moves shelf.program.tasks.items ≤ shelf.notice_places
+  pub opened_are : shelf.opened ≡ []
+  pub entry_places : most_moves shelf.program.tasks.items + most_postings shelf.program.tasks.items ≤ shelf.entry_places
+  pub status_places : over_operations tells shelf.program.tasks.items ≤ shelf.status_places
+  pub notice_places : most_postings shelf.program.tasks.items ≤ shelf.notice_places
+  pub opened_places : (t k : ℕ) (def : TaskDef) → slice_get shelf.program.tasks.items t ≡ Some def → opens (slice_get def.body.items k) ≤ shelf.opened_places
+
+new_rooms : (shelf : Shelf) → IsNew shelf → HasRooms shelf
+new_rooms shelf n =
+    let defs : List TaskDef = shelf.program.tasks.items in
+    let no_entries : length shelf.entries ≡ 0 = ap (λ (z : List Entry). length z) n.entries_are in
+    let no_statuses : length shelf.statuses ≡ 0 = ap (λ (z : List Status). length z) n.statuses_are in
+    let no_notices : length shelf.notices ≡ 0 = ap (λ (z : List ReqNo). length z) n.notices_are in
+    record {
+      entries = room_first entries_left defs shelf.phases _ _ (omega arith) n.phases_are (omega (arith, entries_first defs, n.entry_places));
+      statuses = room_first to_tell defs shelf.phases _ _ no_statuses n.phases_are (omega (arith, told_first defs, n.status_places));
+      notices = room_first postings_left defs shelf.phases _ _ no_notices n.phases_are (omega (arith, postings_first defs, n.notice_places));
+      opened = n.opened_places;
+    }
+
+none_opened : (p : Program) → [] ≡ last_opened p []
+unfolding last_opened
+none_opened p = refl
 
 pub new_book : (shelf : Shelf) → IsNew shelf → KeepsState shelf
 new_book shelf n =
     let p : Program = shelf.program in
     let tasks : ℕ = length p.tasks.items in
     let start : state_now shelf ≡ opening p = ap (λ (es : List Entry). state_now (record shelf { entries = es })) n.entries_are in
-    let left : left_of shelf ≡ most_moves p.tasks.items = ap (λ (z : List Phase). left_of (record shelf { phases = z })) n.phases_are
-    ∙ all_left_at_opening p.tasks.items in
-    let no_entries : length shelf.entries ≡ 0 = ap (λ (z : List Entry). length z) n.entries_are in
-    let no_statuses : length shelf.statuses ≡ 0 = ap (λ (z : List Status). length z) n.statuses_are in
-    let no_notices : length shelf.notices ≡ 0 = ap (λ (z : List ReqNo). length z) n.notices_are in
-    let room = n.entry_places in
-    let room' = n.status_places in
-    let room'' = n.notice_places in
     record {
       well = n.well;
       legal = rw (n.entries_are, n.statuses_are) (record { runs = tt; replies = refl; told = refl });
@@ -59,18 +72,16 @@ new_book shelf n =
           ∙ ap (λ (z : State). map (λ (x : Task). x.phase) z.tasks) (sym start);
       exchange_is = n.quiet ∙ ap (λ (z : State). z.exchange) (sym start);
       notices_are = n.notices_are ∙ ap (λ (z : State). z.notices) (sym start);
-      gone_is = ap (λ (r : Readiness). r.gone.released) n.fresh ∙ sym (map-replicate (λ (z : Task). is_released z.phase) tasks waiting_task)
-          ∙ ap (λ (z : State). (let_go z.tasks).released) (sym start);
+      opened_are = n.opened_are ∙ none_opened p ∙ ap (last_opened p) (sym n.entries_are);
+      gone_is = ap (λ (r : Readiness). r.gone) n.fresh
+          ∙ ap (λ (r : List Bool). record { released = r }) (sym (map-replicate (λ (z : Task). is_released z.phase) tasks waiting_task))
+          ∙ ap (λ (z : State). let_go z.tasks) (sym start);
       tidy = rw start (opening_tidy p);
       begun = λ t at here started. absurd (started (in_replicate tasks phase.Waiting t at (sym (ap (λ (z : List Phase). slice_get z t) n.phases_are) ∙ here)));
       of_program = ap (λ (r : Readiness). r.program) n.fresh;
       whole = n.whole;
       engine_of = n.engine_of;
-      few_entries = omega arith;
-      few_statuses = omega arith;
-      entry_room = omega arith;
-      status_room = omega arith;
-      notice_room = omega arith;
+      rooms = new_rooms shelf n;
     }
 
 abbrev pub MayBeHanded : List Bool → Program → LetGo → ℕ → Type 0
@@ -120,22 +131,19 @@ ready_book shelf ready waits found k programs gone whole more same = record {
   phases_are = k.phases_are;
   exchange_is = k.exchange_is;
   notices_are = k.notices_are;
-  gone_is = ap (λ (g : LetGo). g.released) gone ∙ k.gone_is;
+  opened_are = k.opened_are;
+  gone_is = gone ∙ k.gone_is;
   tidy = k.tidy;
   begun = λ u at here started. still_handed_out shelf.ready ready found u more same (k.begun u at here started);
   of_program = programs ∙ k.of_program;
   whole = whole;
   engine_of = k.engine_of;
-  few_entries = k.few_entries;
-  few_statuses = k.few_statuses;
-  entry_room = k.entry_room;
-  status_room = k.status_room;
-  notice_room = k.notice_room;
+  rooms = record { entries = k.rooms.entries; statuses = k.rooms.statuses; notices = k.rooms.notices; opened = k.rooms.opened };
 }
 
 -- a book's statuses can be counted in 32 bits
 pub status_count : (shelf : Shelf) → KeepsState shelf → length shelf.statuses < 2 ^ 32
 status_count shelf k =
-    let few = few_moves shelf.program k.well in
-    let told = k.few_statuses in
+    let few = few_told_at_first shelf.program k.well in
+    let told = k.rooms.statuses.few in
     omega arith

@@ -1,7 +1,9 @@
 -- A start, a return and a release: what each changes of a book, and where it leaves the record.
-use Rattle.std.proofs.Common.{◌≡◌, ℕ, ◌≤◌, true, List, [], ◌∷◌, ◌++◌, length, slice_get, slice_set, take, drop, Some, Option, refl, sym, ap, ◌∙◌, subst, arith}
+use Rattle.std.proofs.Common.{◌≡◌, ℕ, ◌≤◌, true, Bool, List, [], ◌∷◌, ◌++◌, length, slice_get, slice_set, take, drop, Some, Option, refl, sym, ap, ◌∙◌, subst, arith}
 use Rattle.std.specs.Prelude.{option_map, unwrap_or, ℤ}
 use Rattle.std.proofs.Math.Seq.{take-append_seam}
+use Rattle.std.proofs.lemmas.List.{map-set}
+use Rattle.rt_base.specs.declared.data.ReqNo.{ReqNo}
 use Rattle.rt_base.specs.declared.data.Phase.{Phase}
 use Rattle.rt_base.specs.declared.data.Phase.TheVariants as phase
 use Rattle.rt_base.specs.declared.data.Status.{Status}
@@ -10,7 +12,8 @@ use Rattle.rt_base.specs.declared.data.Entry.TheVariants as entry
 use Rattle.rt_base.specs.declared.data.TaskDef.{TaskDef}
 use Rattle.rt_base.specs.declared.data.Program.{Program}
 use Rattle.rt_base.specs.Operations.{task_no}
-use Rattle.rt_base.specs.State.{State, Task}
+use Rattle.rt_base.specs.Precedes.{LetGo}
+use Rattle.rt_base.specs.State.{State, Task, is_released}
 use Rattle.rt_base.specs.MayMove.{MayMove, MayMoveAt}
 use Rattle.region_deps.specs.Readiness.{Readiness, IsWhole}
 use Rattle.task_local.specs.Regions.{loaded, saved}
@@ -24,6 +27,7 @@ use Rattle.core_book.specs.Kept.{Shelf, KeepsState, state_now}
 use Rattle.core_book.proofs.After.{Changes}
 use Rattle.core_book.proofs.Changes.{start_changes, return_changes, release_changes}
 use Rattle.core_book.proofs.Moved.{IsMoved, moved_alone}
+use Rattle.core_book.proofs.Opened.{opened-row}
 use Rattle.core_book.proofs.Held.{Held, handed_of, stands_before, stop_is_held}
 
 -- where a record is left, by where it stands
@@ -38,18 +42,30 @@ started_task shelf def was = record was { phase = stop def 0; copy = advanced de
 
 pub start_changed : (shelf : Shelf) (held : Record) (t : ℕ) (def : TaskDef) → KeepsState shelf → (h : Held shelf held t def phase.Waiting)
     → MayMove shelf.program (state_now shelf) t
-    → Changes shelf.program (state_now shelf) t def h.was (started_task shelf def h.was) (start_move shelf.program (state_now shelf) t def h.was).state
-    (entry.Start (task_no t))
+    → Changes shelf.program (state_now shelf) t def h.was (started_task shelf def h.was)
+    (start_move shelf.program (state_now shelf) t def h.was).state (entry.Start (task_no t))
 start_changed shelf held t def k h may = start_changes shelf.program (state_now shelf) t def h.was h.is_def h.is_task h.stands may k.tidy
 
-pub start_moved : (shelf : Shelf) (held : Record) (t : ℕ) (def : TaskDef) (at : Phase) (entries : List Entry) (places : ℕ) → KeepsState shelf
+-- the insides after a move of a task alone
+abbrev pub shelf_after : Shelf → ℕ → Phase → List Entry → List ReqNo → ℕ → ℕ → Shelf
+shelf_after shelf t at entries found places places' = record shelf {
+  phases = slice_set shelf.phases t at;
+  entries = entries;
+  opened = found;
+  entry_places = places;
+  opened_places = places';
+}
+
+pub start_moved : (shelf : Shelf) (held : Record) (t : ℕ) (def : TaskDef) (at : Phase) (entries : List Entry) (found : List ReqNo) (places places' : ℕ)
+    → KeepsState shelf
     → (h : Held shelf held t def phase.Waiting) → slice_get shelf.ready.handed t ≡ Some true → at ≡ stop def 0
-    → entries ≡ shelf.entries ++ entry.Start (task_no t) ∷ [] → shelf.entry_places ≤ places
-    → IsMoved shelf (record shelf { phases = slice_set shelf.phases t at; entries = entries; entry_places = places }) t (started_task shelf def h.was)
+    → entries ≡ shelf.entries ++ entry.Start (task_no t) ∷ [] → found ≡ [] → shelf.entry_places ≤ places → shelf.opened_places ≤ places'
+    → IsMoved shelf (shelf_after shelf t at entries found places places') t (started_task shelf def h.was)
     (start_move shelf.program (state_now shelf) t def h.was).state (entry.Start (task_no t))
-start_moved shelf held t def at entries places k h handed stops grown more =
-    moved_alone shelf t h.was (started_task shelf def h.was) (entry.Start (task_no t)) at entries places k h.is_task (rw h.stands refl)
-    (stop_is_held def 0) handed stops grown more
+start_moved shelf held t def at entries found places places' k h handed stops grown none more more' =
+    moved_alone shelf t h.was (started_task shelf def h.was) (entry.Start (task_no t)) at entries found places places' k h.is_task (rw h.stands refl)
+    (stop_is_held def 0) handed stops grown
+    (none ∙ sym (opened-row shelf.program (state_now shelf) t def h.was phase.Waiting h.is_def h.is_task h.stands)) more more'
 
 pub start_left : (shelf : Shelf) (held loaded_held after : Record) (t : ℕ) (def : TaskDef) (at : Phase) (memory : List ℤ) (prog : Program) → KeepsState shelf
     → (h : Held shelf held t def phase.Waiting) → prog ≡ shelf.program → memory ≡ shelf.memory
@@ -89,14 +105,15 @@ pub ret_changed : (shelf : Shelf) (held : Record) (t : ℕ) (def : TaskDef) → 
 ret_changed shelf held t def k h =
     return_changes shelf.program (state_now shelf) t def h.was h.is_def h.is_task h.stands.0 (may_return shelf held t def h) k.tidy
 
-pub ret_moved : (shelf : Shelf) (held : Record) (t : ℕ) (def : TaskDef) (entries : List Entry) (places : ℕ) → KeepsState shelf
+pub ret_moved : (shelf : Shelf) (held : Record) (t : ℕ) (def : TaskDef) (entries : List Entry) (found : List ReqNo) (places places' : ℕ) → KeepsState shelf
     → (h : Held shelf held t def phase.Ended)
-    → entries ≡ shelf.entries ++ entry.Return (task_no t) ∷ [] → shelf.entry_places ≤ places
-    → IsMoved shelf (record shelf { phases = slice_set shelf.phases t phase.Returned; entries = entries; entry_places = places }) t (returned_task h.was)
+    → entries ≡ shelf.entries ++ entry.Return (task_no t) ∷ [] → found ≡ [] → shelf.entry_places ≤ places → shelf.opened_places ≤ places'
+    → IsMoved shelf (shelf_after shelf t phase.Returned entries found places places') t (returned_task h.was)
     (return_move (state_now shelf) t h.was).state (entry.Return (task_no t))
-ret_moved shelf held t def entries places k h grown more =
-    moved_alone shelf t h.was (returned_task h.was) (entry.Return (task_no t)) phase.Returned entries places k h.is_task (rw h.stands.0 refl) refl
-    (handed_of shelf held t def phase.Ended phase.Ended k h h.stands.0 (λ e. absurd (cc e))) refl grown more
+ret_moved shelf held t def entries found places places' k h grown none more more' =
+    moved_alone shelf t h.was (returned_task h.was) (entry.Return (task_no t)) phase.Returned entries found places places' k h.is_task
+    (rw h.stands.0 refl) refl (handed_of shelf held t def phase.Ended phase.Ended k h h.stands.0 (λ e. absurd (cc e))) refl grown
+    (none ∙ sym (opened-row shelf.program (state_now shelf) t def h.was phase.Ended h.is_def h.is_task h.stands.0)) more more'
 
 -- the copy that a release would put back, of a task that bound nothing
 pub release_left : (shelf : Shelf) (held after : Record) (t : ℕ) (def : TaskDef) → KeepsState shelf → (h : Held shelf held t def phase.Returned)
@@ -137,10 +154,11 @@ release_changed shelf held t def after k h may put long =
     (ap (λ (z : List ℤ). length z) (sym put) ∙ long ∙ ap (λ (z : List ℤ). length z) k.memory_is ∙ k.tidy.cells)
 
 pub release_moved : (shelf : Shelf) (held : Record) (t n unreleased : ℕ) (def : TaskDef) (ready : Readiness) (after : List ℤ) (entries : List Entry)
-    (waits : List ℕ) (places : ℕ)
+    (waits : List ℕ) (found : List ReqNo) (places places' : ℕ)
     → KeepsState shelf → (h : Held shelf held t def phase.Returned) → after ≡ saved shelf.program def h.was.copy (state_now shelf).memory
     → ready.program ≡ shelf.ready.program → ready.handed ≡ shelf.ready.handed → ready.gone.released ≡ slice_set shelf.ready.gone.released t true → IsWhole ready
-    → n ≡ length shelf.statuses → entries ≡ shelf.entries ++ entry.Release (task_no t) n 0 ∷ [] → shelf.entry_places ≤ places
+    → n ≡ length shelf.statuses → entries ≡ shelf.entries ++ entry.Release (task_no t) n 0 ∷ [] → found ≡ [] → shelf.entry_places ≤ places
+    → shelf.opened_places ≤ places'
     → IsMoved shelf (record shelf {
       ready = ready;
       memory = after;
@@ -148,15 +166,19 @@ pub release_moved : (shelf : Shelf) (held : Record) (t n unreleased : ℕ) (def 
       entries = entries;
       unreleased = unreleased;
       waits = waits;
+      opened = found;
       entry_places = places;
+      opened_places = places';
     }) t (released_task h.was) (released_state shelf t def h.was) (entry.Release (task_no t) (length (state_now shelf).statuses) 0)
-release_moved shelf held t n unreleased def ready after entries waits places k h put programs marks freed whole told grown more = record {
+release_moved shelf held t n unreleased def ready after entries waits found places places' k h put programs marks freed whole told grown none more more' = record {
   program = refl;
   workers = refl;
   handed = handed_of shelf held t def phase.Returned phase.Returned k h h.stands.0 (λ e. absurd (cc e));
   marks = marks;
   of_program = programs;
-  gone = freed;
+  gone = ap (λ (r : List Bool). record { released = r })
+      (freed ∙ ap (λ (g : LetGo). slice_set g.released t true) k.gone_is
+      ∙ sym (map-set (λ (z : Task). is_released z.phase) (state_now shelf).tasks t (released_task h.was)));
   whole = whole;
   engine = refl;
   exchange = k.exchange_is;
@@ -165,9 +187,11 @@ release_moved shelf held t n unreleased def ready after entries waits places k h
   notices = k.notices_are;
   entries = grown ∙ ap (λ (i : ℕ). shelf.entries ++ entry.Release (task_no t) i 0 ∷ []) (told ∙ ap (λ (z : List Status). length z) k.legal.told);
   statuses = k.legal.told;
+  opened = none ∙ sym (opened-row shelf.program (state_now shelf) t def h.was phase.Returned h.is_def h.is_task h.stands.0);
   entry_places = more;
   status_places = omega arith;
   notice_places = omega arith;
+  opened_places = more';
 }
 
 -- a list that was lent whole comes back whole

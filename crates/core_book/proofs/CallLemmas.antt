@@ -1,6 +1,6 @@
 -- What the call of a posting owes, in terms of a book's fields.
 use Rattle.std.proofs.Common.{◌≡◌, ℕ, zero, suc, ◌+◌, ◌<◌, ◌≤◌, ◌⊎◌, Bool, true, false, not, ◌&&◌, cond, List, [], ◌∷◌, ◌++◌, length, take, drop, filter, slice_get, slice_set, Some, None, Option, refl, sym, ap, ◌∙◌, subst, inl, inr, arith}
-use Rattle.std.specs.Prelude.{ℤ, option_map, option_and_then, count_by, IfSome}
+use Rattle.std.specs.Prelude.{ℤ, option_map, option_and_then, count_by, IfSome, ◌==◌}
 use Rattle.std.specs.List.{list_any}
 use Rattle.std.proofs.lemmas.Option.{slice_get_within, get_or_from_slice_get}
 use Rattle.std.proofs.lemmas.List.{length-take, length-drop}
@@ -19,7 +19,7 @@ use Rattle.rt_base.specs.declared.data.Entry.TheVariants as entry
 use Rattle.rt_base.specs.declared.data.TaskDef.{TaskDef}
 use Rattle.rt_base.specs.declared.data.Program.{Program}
 use Rattle.rt_base.specs.Spans.{span_len}
-use Rattle.rt_base.specs.Operations.{task_no, request, blocks, is_receive, is_posting, posting_of, nth_at}
+use Rattle.rt_base.specs.Operations.{task_no, request, blocks, is_local, is_receive, is_posting, posting_of, nth_at}
 use Rattle.rt_base.specs.Matching.{same_request}
 use Rattle.rt_base.specs.Exchange.{Exchange, post, partner}
 use Rattle.rt_base.specs.Completion.{is_posted, is_complete, completes_alone}
@@ -28,8 +28,6 @@ use Rattle.rt_base.specs.MayMove.{MayMove, MayMoveAt}
 use Rattle.rt_base.specs.WellFormed.{WellFormed, IsTask, IsOperation, IsPostingOf, IsDeclared, region_cells}
 use Rattle.match_engine.specs.Switch.{Switch}
 use Rattle.match_engine.specs.Requests.{IsSend, IsReceive, Sends, Receives}
-use Rattle.task_local.specs.declared.standing.At.{At}
-use Rattle.task_local.specs.declared.standing.At.TheVariants as at
 use Rattle.task_local.specs.Regions.{cells_of_span, place}
 use Rattle.task_local.specs.Local.{advanced, stop, run_front, stop_at}
 use Rattle.task_local.specs.Packed.{packed, packed_by}
@@ -40,48 +38,70 @@ use Rattle.task_machine.specs.Course.{posted_by_phase}
 use Rattle.std.proofs.lemmas.Bool.{false_from_ne_true}
 use Rattle.task_local.proofs.Places.{declared_fits}
 use Rattle.core_book.specs.declared.posting.Posting.{Posting}
-use Rattle.task_local.specs.Standing.{phase_before, def_of, at_phase, at_operation, packed_next, GoesTo, IsCall}
+use Rattle.task_local.specs.Standing.{phase_before, def_of, packed_next, GoesTo, IsCall}
 use Rattle.task_machine.specs.Legal.{final, phases_of}
 use Rattle.task_machine.specs.Laws.{is_blocking_call}
-use Rattle.task_machine.proofs.Lists.{slice_set_same, slice_get-map}
+use Rattle.task_machine.specs.Owed.{opened, opened_by, opened_by_posting}
+use Rattle.task_machine.proofs.Lists.{slice_get-map}
 use Rattle.task_machine.proofs.Items.{same_some}
 use Rattle.task_machine.proofs.Stops.{drop_at}
-use Rattle.core_book.specs.Ledger.{Ledger, IsPosting, IsAtPosting, LeavesPending, record_at}
-use Rattle.core_book.specs.Kept.{Shelf, KeepsState, PostsAs, state_now, awaits_now, noticed_now}
+use Rattle.core_book.specs.Ledger.{Ledger, LeavesPending, record_at}
+use Rattle.core_book.specs.Kept.{Shelf, KeepsState, PostsAs, opens, state_now, awaits_now, noticed_now}
 use Rattle.core_book.proofs.After.{Changes}
-use Rattle.core_book.proofs.Changes.{post_changes}
-use Rattle.core_book.proofs.Moved.{IsMoved, ledger_of, still_held}
-use Rattle.core_book.proofs.Held.{Held, held_at, handed_of, stands_before, stop_is_held, theirs}
+use Rattle.core_book.proofs.Tells.{posted_within}
+use Rattle.core_book.proofs.Changes.{nth_at-suc, post_changes}
+use Rattle.core_book.proofs.Moved.{IsMoved, gone_kept, ledger_of}
+use Rattle.core_book.proofs.Opened.{opened-row}
+use Rattle.core_book.proofs.Stops.{stop_here}
+use Rattle.core_book.proofs.Held.{Held, held_at, handed_of, notice_room, stands_before, stop_is_held, theirs}
 
 drop_here : (ops : List Op) (k : ℕ) (x : Op) → slice_get ops k ≡ Some x → drop k ops ≡ x ∷ drop (k + 1) ops
 drop_here ops k x here = drop_at ops k x (slice_get_within ops k x here) (sym (get_or_from_slice_get ops k x x here))
 
--- the call that is next, by the phase
-call_by_operation : (k j : ℕ) (o : Option Op) → IsPosting o → at_operation k o ≡ at.Call j → k ≡ j
-call_by_operation k j None posts is = absurd posts
-call_by_operation k j (Some (op.Compute kind dst left right value step)) posts is = absurd posts
-call_by_operation k j (Some (op.Post how span peer tag comm status)) posts is = cc
-call_by_operation k j (Some (op.Await later handles status)) posts is = absurd posts
-
-call_by_phase : (def : TaskDef) (q : Phase) (j : ℕ) → IsAtPosting def q → at_phase def q ≡ at.Call j → q ≡ phase.At j
-call_by_phase def phase.Waiting j posts is = absurd posts
-call_by_phase def (phase.At k) j posts is = ap phase.At (call_by_operation k j (slice_get def.body.items k) posts is)
-call_by_phase def (phase.In k) j posts is = absurd posts
-call_by_phase def phase.Ended j posts is = absurd posts
-call_by_phase def phase.Returned j posts is = absurd posts
-call_by_phase def phase.Released j posts is = absurd posts
-
--- before a posting no local operation is next
-stop_at_post : (def : TaskDef) (k : ℕ) (posting : Posting) → PostsAs (slice_get def.body.items k) posting → stop def k ≡ phase.At k
+-- before a call no local operation is next
+stop_at_call : (def : TaskDef) (k : ℕ) (x : Op) → slice_get def.body.items k ≡ Some x → is_local x ≡ false → stop def k ≡ phase.At k
 unfolding stop
-stop_at_post def k posting posts =
-    ap (stop_at k) (drop_here def.body.items k (op.Post posting.how posting.span posts.peer posts.tag posts.comm posting.status) posts.is)
+stop_at_call def k x here other = ap (stop_at k) (drop_here def.body.items k x here) ∙ stop_here k x (drop (k + 1) def.body.items) other
 
-advanced_at_post : (def : TaskDef) (k : ℕ) (copy : List ℤ) (posting : Posting) → PostsAs (slice_get def.body.items k) posting → advanced def k copy ≡ copy
+not_run : (def : TaskDef) (x : Op) (ops : List Op) (copy : List ℤ) → is_local x ≡ false → run_front def (x ∷ ops) copy ≡ copy
+not_run def (op.Compute kind dst left right value step) ops copy other = absurd (cc)
+not_run def (op.Post how span peer tag comm status) ops copy other = refl
+not_run def (op.Await later handles status) ops copy other = refl
+
+advanced_at_call : (def : TaskDef) (k : ℕ) (x : Op) (copy : List ℤ) → slice_get def.body.items k ≡ Some x → is_local x ≡ false → advanced def k copy ≡ copy
 unfolding advanced
-advanced_at_post def k copy posting posts =
-    ap (λ (ops : List Op). run_front def ops copy)
-    (drop_here def.body.items k (op.Post posting.how posting.span posts.peer posts.tag posts.comm posting.status) posts.is)
+advanced_at_call def k x copy here other =
+    ap (λ (ops : List Op). run_front def ops copy) (drop_here def.body.items k x here) ∙ not_run def x (drop (k + 1) def.body.items) copy other
+
+-- a task that is before a call, as its record and the machine's state have it
+pub record Before (shelf : Shelf) (held : Record) (t k : ℕ) (def : TaskDef) (x : Op) : Type 0 where
+  pub here : Held shelf held t def (phase.At k)
+  pub is : slice_get def.body.items k ≡ Some x
+  pub at : here.was.phase ≡ phase.At k
+  pub copy : held.copy ≡ here.was.copy
+
+pub before : (shelf : Shelf) (held : Record) (t k : ℕ) (def : TaskDef) (x : Op) (l : Ledger) (prog : Program) → ledger_of shelf ≡ l → prog ≡ l.program
+    → StandsFor prog held (final prog l.history) → t ≡ held.task → slice_get prog.tasks.items t ≡ Some def → held.phase ≡ phase.At k
+    → slice_get (def_of held.program held.task).body.items k ≡ Some x → is_local x ≡ false → Before shelf held t k def x
+before shelf held t k def x l prog view same stands who is_def place is other =
+    let here = held_at shelf held t def (phase.At k) l prog view same stands who is_def place in
+    let own : slice_get def.body.items k ≡ Some x = ap (λ (d : TaskDef). slice_get d.body.items k) (sym here.held_def) ∙ is in
+    record {
+      here = here;
+      is = own;
+      at = sym here.stands.0 ∙ stop_at_call def k x own other;
+      copy = sym (advanced_at_call def k x held.copy own other) ∙ here.stands.1;
+    }
+
+-- the task may make its call
+pub before_may : (shelf : Shelf) (held : Record) (t k : ℕ) (def : TaskDef) (x : Op) → Before shelf held t k def x → MayMove shelf.program (state_now shelf) t
+before_may shelf held t k def x b = record {
+  def = def;
+  task = b.here.was;
+  is_def = b.here.is_def;
+  is_task = b.here.is_task;
+  enabled = subst (MayMoveAt shelf.program (state_now shelf).tasks (state_now shelf).exchange t def b.here.was) (sym b.at) tt;
+}
 
 -- what is known at the call of a posting
 pub record Calls (shelf : Shelf) (held : Record) (t k : ℕ) (def : TaskDef) (posting : Posting) : Type 0 where
@@ -90,34 +110,45 @@ pub record Calls (shelf : Shelf) (held : Record) (t k : ℕ) (def : TaskDef) (po
   pub at : here.was.phase ≡ phase.At k
   pub copy : held.copy ≡ here.was.copy
 
-pub calls : (shelf : Shelf) (held : Record) (t k : ℕ) (def : TaskDef) (posting : Posting) (found : At) (l : Ledger) (prog : Program) → ledger_of shelf ≡ l
-    → prog ≡ l.program
-    → StandsFor prog held (final prog l.history) → IsAtPosting (def_of held.program held.task) held.phase → t ≡ held.task
-    → slice_get prog.tasks.items t ≡ Some def
-    → found ≡ at_phase (def_of held.program held.task) held.phase → found ≡ at.Call k → PostsAs (slice_get def.body.items k) posting
-    → Calls shelf held t k def posting
-calls shelf held t k def posting found l prog view same stands before who is_def read called posts =
-    let place : held.phase ≡ phase.At k = call_by_phase (def_of held.program held.task) held.phase k before (sym read ∙ called) in
-    let here = held_at shelf held t def (phase.At k) l prog view same stands who is_def place in
+-- the operation that a posting is
+abbrev pub posting_op : (posting : Posting) (o : Option Op) → PostsAs o posting → Op
+posting_op posting o posts = op.Post posting.how posting.span posts.peer posts.tag posts.comm posting.status
+
+pub calls : (shelf : Shelf) (held : Record) (t k : ℕ) (def : TaskDef) (posting : Posting) (l : Ledger) (prog : Program) → ledger_of shelf ≡ l
+    → prog ≡ l.program → StandsFor prog held (final prog l.history) → t ≡ held.task → slice_get prog.tasks.items t ≡ Some def → held.phase ≡ phase.At k
+    → PostsAs (slice_get (def_of held.program held.task).body.items k) posting → Calls shelf held t k def posting
+calls shelf held t k def posting l prog view same stands who is_def place posts =
+    let b = before shelf held t k def (posting_op posting _ posts) l prog view same stands who is_def place posts.is refl in
     record {
-      here = here;
-      posts = posts;
-      at = sym here.stands.0 ∙ stop_at_post def k posting posts;
-      copy = sym (advanced_at_post def k held.copy posting posts) ∙ here.stands.1;
+      here = b.here;
+      posts = record { peer = posts.peer; tag = posts.tag; comm = posts.comm; is = b.is };
+      at = b.at;
+      copy = b.copy;
     }
 
 call_may : (shelf : Shelf) (held : Record) (t k : ℕ) (def : TaskDef) (posting : Posting) → Calls shelf held t k def posting
     → MayMove shelf.program (state_now shelf) t
-call_may shelf held t k def posting c = record {
-  def = def;
-  task = c.here.was;
-  is_def = c.here.is_def;
-  is_task = c.here.is_task;
-  enabled = subst (MayMoveAt shelf.program (state_now shelf).tasks (state_now shelf).exchange t def c.here.was) (sym c.at) tt;
-}
+call_may shelf held t k def posting c =
+    before_may shelf held t k def (posting_op posting _ c.posts) (record { here = c.here; is = c.posts.is; at = c.at; copy = c.copy })
 
 pub call_within : (def : TaskDef) (k : ℕ) (posting : Posting) → PostsAs (slice_get def.body.items k) posting → k < length def.body.items
 call_within def k posting posts = slice_get_within def.body.items k (op.Post posting.how posting.span posts.peer posts.tag posts.comm posting.status) posts.is
+
+-- a posting has room for a notice, and for its own request among what is opened
+pub post_room : (shelf : Shelf) (held : Record) (t k : ℕ) (def : TaskDef) (posting : Posting) → KeepsState shelf → Calls shelf held t k def posting
+    → length shelf.notices < shelf.notice_places
+post_room shelf held t k def posting kept c =
+    let room = notice_room shelf held t def (phase.At k) (phase.At k) kept c.here c.at in
+    let more = nth_at-suc def k (posting_op posting _ c.posts) c.posts.is refl in
+    let most = posted_within def (k + 1) in
+    omega arith
+
+pub post_opens : (shelf : Shelf) (held : Record) (t k : ℕ) (def : TaskDef) (posting : Posting) → KeepsState shelf → Calls shelf held t k def posting
+    → 1 ≤ shelf.opened_places
+post_opens shelf held t k def posting kept c =
+    let one : opens (slice_get def.body.items k) ≡ 1 = ap opens c.posts.is in
+    let room = kept.rooms.opened t k def c.here.is_def in
+    omega arith
 
 one_more : (n : ℕ) → 1 + n ≡ suc n
 one_more n = omega arith
@@ -336,18 +367,57 @@ call_exchange shelf held t k n count def posting cells engine found kept c a =
     ∙ ap (λ (i : ℕ). post p (state_now shelf).exchange (request t i) cells) a.nth
     ∙ ap (post p (state_now shelf).exchange (request t (nth_at def k))) (call_packs shelf held t k def posting cells c a.packs)
 
+-- the exchange after the posting
+abbrev pub exchange_after : Shelf → ℕ → ℕ → TaskDef → Task → Exchange
+exchange_after shelf t k def was = post shelf.program (state_now shelf).exchange (request t (nth_at def k)) (packed def k was.copy)
+
+call_count : (shelf : Shelf) (held : Record) (t k n count : ℕ) (def : TaskDef) (posting : Posting) (cells : List ℤ) (engine : Switch)
+    (found : Option ReqNo) → KeepsState shelf
+    → (c : Calls shelf held t k def posting) → Answered shelf held t k n count def posting cells engine found
+    → count ≡ cond (is_complete shelf.program (exchange_after shelf t k def c.here.was) (request t (nth_at def k))) 0 1
+call_count shelf held t k n count def posting cells engine found kept c a =
+    let p : Program = shelf.program in
+    a.counted ∙ ap (λ (q : Program). cond (is_complete q engine.exchange (request t n)) 0 1) (a.program ∙ kept.engine_of)
+    ∙ ap (λ (e : Exchange). cond (is_complete p e (request t n)) 0 1) (call_exchange shelf held t k n count def posting cells engine found kept c a)
+    ∙ ap (λ (i : ℕ). cond (is_complete p (exchange_after shelf t k def c.here.was) (request t i)) 0 1) a.nth
+
 pub call_entry : (shelf : Shelf) (held : Record) (t k n count : ℕ) (def : TaskDef) (posting : Posting) (cells : List ℤ) (engine : Switch)
     (found : Option ReqNo) → KeepsState shelf
     → (c : Calls shelf held t k def posting) → Answered shelf held t k n count def posting cells engine found
     → entry.Call (task_no t) k count ≡ (post_move shelf.program (state_now shelf) t def c.here.was k (blocks posting.how)).entry
 call_entry shelf held t k n count def posting cells engine found kept c a =
-    let p : Program = shelf.program in
-    let after : Exchange = post p (state_now shelf).exchange (request t (nth_at def k)) (packed def k c.here.was.copy) in
-    let is_after : engine.exchange ≡ after = call_exchange shelf held t k n count def posting cells engine found kept c a in
     ap (entry.Call (task_no t) k)
-    (a.counted ∙ ap (λ (q : Program). cond (is_complete q engine.exchange (request t n)) 0 1) (a.program ∙ kept.engine_of)
-    ∙ ap (λ (e : Exchange). cond (is_complete p e (request t n)) 0 1) is_after
-    ∙ ap (λ (i : ℕ). cond (is_complete p after (request t i)) 0 1) a.nth ∙ sym (open_one p after (request t (nth_at def k))))
+    (call_count shelf held t k n count def posting cells engine found kept c a
+    ∙ sym (open_one shelf.program (exchange_after shelf t k def c.here.was) (request t (nth_at def k))))
+
+-- what a posting opens: its own request, where it blocks and the request is incomplete
+opens_if : (blocking done : Bool) (req : ReqNo)
+    → cond (cond blocking (cond done 0 1) 0 == 0) [] (req ∷ []) ≡ cond blocking (cond done [] (req ∷ [])) []
+opens_if true true req = refl
+opens_if true false req = refl
+opens_if false done req = refl
+
+posting_opens : (shelf : Shelf) (t k : ℕ) (def : TaskDef) (was : Task) (blocking : Bool)
+    → opened_by_posting shelf.program (state_now shelf) t def was k blocking
+    ≡ cond blocking (cond (is_complete shelf.program (exchange_after shelf t k def was) (request t (nth_at def k))) [] (request t (nth_at def k) ∷ [])) []
+posting_opens shelf t k def was true = refl
+posting_opens shelf t k def was false = refl
+
+pub call_opens : (shelf : Shelf) (held : Record) (t k n count number : ℕ) (def : TaskDef) (posting : Posting) (cells : List ℤ) (engine : Switch)
+    (found : Option ReqNo) (listed : List ReqNo) → KeepsState shelf
+    → (c : Calls shelf held t k def posting) → Answered shelf held t k n count def posting cells engine found → number ≡ cond (blocks posting.how) count 0
+    → listed ≡ cond (number == 0) [] (record { task = task_no t; nth = n } ∷ []) → listed ≡ opened shelf.program (state_now shelf) t
+call_opens shelf held t k n count number def posting cells engine found listed kept c a is_number is_listed =
+    let p : Program = shelf.program in
+    let s : State = state_now shelf in
+    let own : ReqNo = request t (nth_at def k) in
+    is_listed ∙ ap (λ (m : ℕ). cond (m == 0) [] (request t n ∷ [])) is_number
+    ∙ ap (λ (m : ℕ). cond (cond (blocks posting.how) m 0 == 0) [] (request t n ∷ []))
+    (call_count shelf held t k n count def posting cells engine found kept c a)
+    ∙ opens_if (blocks posting.how) (is_complete p (exchange_after shelf t k def c.here.was) own) (request t n)
+    ∙ ap (λ (i : ℕ). cond (blocks posting.how) (cond (is_complete p (exchange_after shelf t k def c.here.was) own) [] (request t i ∷ [])) []) a.nth
+    ∙ sym (posting_opens shelf t k def c.here.was (blocks posting.how)) ∙ sym (ap (opened_by p s t def c.here.was k) c.posts.is)
+    ∙ sym (opened-row p s t def c.here.was (phase.At k) c.here.is_def c.here.is_task c.at)
 
 pub call_notices : (shelf : Shelf) (held : Record) (t k n count : ℕ) (def : TaskDef) (posting : Posting) (cells : List ℤ) (engine : Switch)
     (found : Option ReqNo)
@@ -373,11 +443,13 @@ call_notices shelf held t k n count def posting cells engine found prog phases n
     ∙ ap (λ (o : Option ReqNo). s.notices ++ noticed p s.tasks s.exchange o) of_state
 
 pub call_moved : (shelf : Shelf) (held : Record) (t k n count : ℕ) (def : TaskDef) (posting : Posting) (cells : List ℤ) (engine : Switch) (found : Option ReqNo)
-    (prog : Program) (phases : List Phase) (at : Phase) (notices : List ReqNo) (entries : List Entry) (waits posted : List ℕ) (entry_places notice_places : ℕ)
+    (prog : Program) (phases : List Phase) (at : Phase) (notices : List ReqNo) (entries : List Entry) (waits posted : List ℕ) (listed : List ReqNo)
+    (entry_places notice_places opened_places : ℕ)
     → KeepsState shelf → (c : Calls shelf held t k def posting) → Answered shelf held t k n count def posting cells engine found
     → prog ≡ shelf.program → phases ≡ shelf.phases → notices ≡ shelf.notices ++ noticed_now prog phases found
     → at ≡ cond (blocks posting.how) (phase.In k) (stop def (k + 1)) → entries ≡ shelf.entries ++ entry.Call (task_no t) k count ∷ []
-    → shelf.entry_places ≤ entry_places → shelf.notice_places ≤ notice_places
+    → listed ≡ opened shelf.program (state_now shelf) t
+    → shelf.entry_places ≤ entry_places → shelf.notice_places ≤ notice_places → shelf.opened_places ≤ opened_places
     → IsMoved shelf (record shelf {
       engine = engine;
       phases = slice_set shelf.phases t at;
@@ -385,21 +457,21 @@ pub call_moved : (shelf : Shelf) (held : Record) (t k n count : ℕ) (def : Task
       entries = entries;
       waits = waits;
       posted = posted;
+      opened = listed;
       entry_places = entry_places;
       notice_places = notice_places;
+      opened_places = opened_places;
     }) t (posted_task def k (blocks posting.how) c.here.was) (post_move shelf.program (state_now shelf) t def c.here.was k (blocks posting.how)).state
     (post_move shelf.program (state_now shelf) t def c.here.was k (blocks posting.how)).entry
-call_moved shelf held t k n count def posting cells engine found prog phases at notices entries waits posted entry_places notice_places kept c a same seen
-    told stops grown more more' =
-    let marks = still_held shelf t c.here.was kept c.here.is_task (ap is_released c.at) in
+call_moved shelf held t k n count def posting cells engine found prog phases at notices entries waits posted listed entry_places notice_places
+    opened_places kept c a same seen told stops grown opens more more' more'' =
     record {
       program = refl;
       workers = refl;
       handed = handed_of shelf held t def (phase.At k) (phase.At k) kept c.here c.at (λ e. absurd (cc e));
       marks = refl;
       of_program = refl;
-      gone = sym (ap (slice_set shelf.ready.gone.released t) (posted_held def k (blocks posting.how) c.here.was)
-          ∙ slice_set_same shelf.ready.gone.released t false marks);
+      gone = gone_kept shelf t c.here.was _ kept c.here.is_task (ap is_released c.at) (posted_held def k (blocks posting.how) c.here.was);
       whole = kept.whole;
       engine = a.program;
       exchange = call_exchange shelf held t k n count def posting cells engine found kept c a;
@@ -408,9 +480,11 @@ call_moved shelf held t k n count def posting cells engine found prog phases at 
       notices = call_notices shelf held t k n count def posting cells engine found prog phases notices kept c a same seen told;
       entries = grown ∙ ap (λ (e : Entry). shelf.entries ++ e ∷ []) (call_entry shelf held t k n count def posting cells engine found kept c a);
       statuses = kept.legal.told;
+      opened = opens;
       entry_places = more;
       status_places = omega arith;
       notice_places = more';
+      opened_places = more'';
     }
 
 blocking_is : (def : TaskDef) (k : ℕ) (posting : Posting) → PostsAs (slice_get def.body.items k) posting

@@ -11,10 +11,9 @@ use Rattle.rt_base.specs.State.{let_go}
 use Rattle.region_deps.specs.Readiness.{IsStartable}
 use Rattle.task_local.specs.Local.{stop}
 use Rattle.task_local.specs.StandsFor.{Record}
-use Rattle.core_book.specs.declared.posting.Posting.{Posting}
 use Rattle.core_book.specs.Kept.{Shelf, IsBook, IsCounted, state_now, is_unreleased, waits_at}
 use Rattle.core_book.proofs.Held.{Held, read_at, stop_is_held}
-use Rattle.core_book.proofs.LeaveLemmas.{Inside, enabled_in}
+use Rattle.core_book.proofs.LeaveLemmas.{Within, enabled_in}
 use Rattle.core_book.proofs.CountLemmas.{counted_on, counted_move, counted_ready, count-set, stop_waits, waits_for_none, held_one}
 use Rattle.core_book.proofs.Quiet.{handed_waits, startable_waits, startable_start}
 
@@ -49,11 +48,10 @@ start_counted shelf held t def at gone book h mine stops more =
     (stop_is_held def 0)
     (handed_waits p x marks t (get_or_from_slice_get marks t true false mine)) (stop_waits p x marks t def 0))
 
--- a task leaves its posting
-pub leave_counted : (shelf : Shelf) (held : Record) (t k : ℕ) (def : TaskDef) (posting : Posting) (at : Phase) (gone : LetGo) → IsBook shelf
-    → Inside shelf held t k def posting
+-- a task leaves its operation
+pub leave_counted : (shelf : Shelf) (held : Record) (t k : ℕ) (def : TaskDef) (at : Phase) (gone : LetGo) → IsBook shelf → Within shelf held t k def
     → at ≡ stop def (k + 1) → GoneMore (gone_in shelf) gone → CountsAre shelf gone (slice_set shelf.phases t at) shelf.unreleased shelf.waits
-leave_counted shelf held t k def posting at gone book i stops more =
+leave_counted shelf held t k def at gone book i stops more =
     let p : Program = shelf.program in
     let x : Exchange = shelf.engine.exchange in
     let marks : List Bool = shelf.ready.handed in
@@ -61,7 +59,7 @@ leave_counted shelf held t k def posting at gone book i stops more =
     let none : waits_at p (state_now shelf).exchange marks t (phase.In k) ≡ 0 =
     (waits_for_none p (state_now shelf) marks t def i.here.was (phase.In k) i.here.is_def (book.kept.tidy.unbound t i.here.was i.here.is_task).1
     (λ e. absurd (cc e))).1
-    (enabled_in shelf held t k def posting i) in
+    (enabled_in shelf held t k def i) in
     subst (λ (q : Phase). CountsAre shelf gone (slice_set shelf.phases t q) shelf.unreleased shelf.waits) (sym stops)
     (counted_on p (gone_in shelf) gone marks shelf.phases x shelf.unreleased shelf.waits t (phase.In k) (stop def (k + 1)) book.counted more here refl
     (stop_is_held def (k + 1))

@@ -7,7 +7,7 @@ use Rattle.rt_base.specs.declared.data.Phase.TheVariants as phase
 use Rattle.rt_base.specs.declared.data.TaskDef.{TaskDef}
 use Rattle.rt_base.specs.declared.data.Program.{Program}
 use Rattle.rt_base.specs.WellFormed.{WellFormed}
-use Rattle.task_machine.specs.Course.{all_left, most_moves, moves_left}
+use Rattle.task_machine.specs.Course.{most_moves}
 
 most_moves_split : (defs : List TaskDef) → most_moves defs ≡ 2 * sum_by (λ (def : TaskDef). length def.body.items) defs + 3 * length defs
 most_moves_split [] = refl
@@ -17,7 +17,7 @@ most_moves_split (def ∷ defs) =
     let rest = most_moves_split defs in
     omega arith
 
-one_of_sum : (f : TaskDef → ℕ) (defs : List TaskDef) (t : ℕ) (def : TaskDef) → slice_get defs t ≡ Some def → f def ≤ sum_by f defs
+pub one_of_sum : (f : TaskDef → ℕ) (defs : List TaskDef) (t : ℕ) (def : TaskDef) → slice_get defs t ≡ Some def → f def ≤ sum_by f defs
 one_of_sum f [] t def here = absurd (cc)
 one_of_sum f (d ∷ defs) zero def here =
     let whole = sum_by-cons f d defs in
@@ -28,33 +28,16 @@ one_of_sum f (d ∷ defs) (suc t) def here =
     let rest = one_of_sum f defs t def here in
     omega arith
 
-pub one_left : (defs : List TaskDef) (phases : List Phase) (t : ℕ) (def : TaskDef) (at : Phase) → slice_get defs t ≡ Some def → slice_get phases t ≡ Some at
-    → moves_left (length def.body.items) at ≤ all_left defs phases
-one_left [] phases t def at is_def is_at = absurd (cc)
-one_left (d ∷ defs) [] t def at is_def is_at = absurd (cc)
-one_left (d ∷ defs) (q ∷ phases) zero def at is_def is_at =
-    let same : d ≡ def = cc in
-    let there : q ≡ at = cc in
-    rw (same, there) (omega arith)
-one_left (d ∷ defs) (q ∷ phases) (suc t) def at is_def is_at =
-    let rest = one_left defs phases t def at is_def is_at in
-    omega arith
-
--- the opening has the moves of all tasks left
-pub all_left_at_opening : (defs : List TaskDef) → all_left defs (replicate (length defs) phase.Waiting) ≡ most_moves defs
-all_left_at_opening [] = refl
-all_left_at_opening (def ∷ defs) =
-    let whole = sum_by-cons (λ (def : TaskDef). 2 * length def.body.items + 3) def defs in
-    let rest = all_left_at_opening defs in
-    omega arith
-
 -- a program has room for the moves of its tasks in a 32-bit number
-pub few_moves : (p : Program) → WellFormed p → most_moves p.tasks.items < 2 ^ 32
-few_moves p well =
+pub most_moves_few : (p : Program) → WellFormed p → most_moves p.tasks.items ≤ 2293760
+most_moves_few p well =
     let split = most_moves_split p.tasks.items in
     let operations : sum_by (λ (def : TaskDef). length def.body.items) p.tasks.items ≤ 1048576 = well.operations in
     let tasks : length p.tasks.items ≤ 65536 = well.task_count in
     omega arith
+
+pub few_moves : (p : Program) → WellFormed p → most_moves p.tasks.items < 2 ^ 32
+few_moves p well = omega (arith, most_moves_few p well)
 
 pub few_operations : (p : Program) (t : ℕ) (def : TaskDef) → WellFormed p → slice_get p.tasks.items t ≡ Some def → length def.body.items < 2 ^ 32
 few_operations p t def well is_def =

@@ -1,5 +1,5 @@
 -- The task of a record, as the caller, the book and the machine's state have it.
-use Rattle.std.proofs.Common.{◌≡◌, ◌≢◌, ℕ, ◌<◌, ◌≤◌, Bool, true, false, List, length, drop, slice_get, Some, Option, refl, sym, ap, ◌∙◌, subst, cond, ltb, arith}
+use Rattle.std.proofs.Common.{◌≡◌, ◌≢◌, ℕ, ◌+◌, ◌<◌, ◌≤◌, Bool, true, false, List, length, drop, slice_get, Some, Option, refl, sym, ap, ◌∙◌, subst, cond, ltb, arith}
 use Rattle.std.specs.Prelude.{ℤ, unwrap_or}
 use Rattle.std.proofs.lemmas.Option.{slice_get_within}
 use Rattle.std.proofs.lemmas.List.{length-map}
@@ -20,8 +20,8 @@ use Rattle.task_machine.specs.Course.{moves_left}
 use Rattle.task_machine.proofs.Items.{same_some}
 use Rattle.task_machine.proofs.Stops.{drop_end, stop_ended, stop_begins, stop_held}
 use Rattle.core_book.specs.Ledger.{Ledger}
-use Rattle.core_book.specs.Kept.{Shelf, KeepsState, state_now}
-use Rattle.core_book.proofs.Few.{one_left}
+use Rattle.core_book.specs.Kept.{Shelf, KeepsState, entries_left, postings_left, state_now, to_tell}
+use Rattle.core_book.proofs.Rooms.{few_told_at_first, over_one, room_for}
 use Rattle.core_book.proofs.Moved.{ledger_of, phase_read}
 
 -- the caller's program is the book's
@@ -97,14 +97,31 @@ handed_of shelf held t def at q k h is started = k.begun t q (read_at shelf held
 
 -- a task that may still move has room for its entry
 pub room_at : (shelf : Shelf) (held : Record) (t : ℕ) (def : TaskDef) (at q : Phase) → KeepsState shelf → (h : Held shelf held t def at) → h.was.phase ≡ q
-    → 0 < moves_left (length def.body.items) q
-    → (length shelf.entries < shelf.entry_places) × (length shelf.statuses < shelf.status_places) × (length shelf.notices < shelf.notice_places)
+    → 0 < moves_left (length def.body.items) q → length shelf.entries < shelf.entry_places
 room_at shelf held t def at q k h is some =
-    let left = one_left shelf.program.tasks.items shelf.phases t def q h.is_def (read_at shelf held t def at q k h is) in
-    let entries = k.entry_room in
-    let statuses = k.status_room in
-    let notices = k.notice_room in
-    (omega arith, omega arith, omega arith)
+    let room = room_for entries_left shelf.program.tasks.items shelf.phases t def q _ _ k.rooms.entries h.is_def (read_at shelf held t def at q k h is) in
+    omega arith
+
+-- a task that has something to tell has room for it
+pub told_room : (shelf : Shelf) (held : Record) (t : ℕ) (def : TaskDef) (at q : Phase) → KeepsState shelf → (h : Held shelf held t def at) → h.was.phase ≡ q
+    → length shelf.statuses + to_tell def q ≤ shelf.status_places
+told_room shelf held t def at q k h is =
+    room_for to_tell shelf.program.tasks.items shelf.phases t def q _ _ k.rooms.statuses h.is_def (read_at shelf held t def at q k h is)
+
+-- and so much is counted in 32 bits
+pub told_count : (shelf : Shelf) (held : Record) (t : ℕ) (def : TaskDef) (at q : Phase) → KeepsState shelf → (h : Held shelf held t def at)
+    → h.was.phase ≡ q → length shelf.statuses + to_tell def q ≤ 1310720
+told_count shelf held t def at q k h is =
+    let few = few_told_at_first shelf.program k.well in
+    let whole = k.rooms.statuses.few in
+    let one = over_one to_tell shelf.program.tasks.items shelf.phases t def q h.is_def (read_at shelf held t def at q k h is) in
+    omega arith
+
+-- a task that has something to post has room for a notice
+pub notice_room : (shelf : Shelf) (held : Record) (t : ℕ) (def : TaskDef) (at q : Phase) → KeepsState shelf → (h : Held shelf held t def at)
+    → h.was.phase ≡ q → length shelf.notices + postings_left def q ≤ shelf.notice_places
+notice_room shelf held t def at q k h is =
+    room_for postings_left shelf.program.tasks.items shelf.phases t def q _ _ k.rooms.notices h.is_def (read_at shelf held t def at q k h is)
 
 pub phases_counted : (shelf : Shelf) → KeepsState shelf → length shelf.phases ≡ length shelf.program.tasks.items
 phases_counted shelf k =

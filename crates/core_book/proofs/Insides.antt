@@ -17,7 +17,9 @@ shelf_of b = record {
   unreleased = b.unreleased;
   waits = b.waits;
   posted = b.posted;
+  opened = b.opened.items;
   entry_places = vec_capacity b.entries;
   status_places = vec_capacity b.statuses;
   notice_places = vec_capacity b.notices;
+  opened_places = vec_capacity b.opened;
 }

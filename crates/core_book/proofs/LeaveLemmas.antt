@@ -25,89 +25,65 @@ use Rattle.rt_base.specs.Completion.{is_complete, request_cells, receive_cells, 
 use Rattle.rt_base.specs.State.{State, Task, is_released}
 use Rattle.rt_base.specs.MayMove.{MayMove, MayMoveAt, AreComplete}
 use Rattle.rt_base.specs.WellFormed.{IsPostingOf, IsDeclared}
-use Rattle.task_local.specs.declared.standing.At.{At}
-use Rattle.task_local.specs.declared.standing.At.TheVariants as at
 use Rattle.task_local.specs.Regions.{put}
 use Rattle.task_local.specs.Local.{advanced, stop}
 use Rattle.task_local.specs.Waits.{taken, told, put_statuses, put_at_posting}
 use Rattle.task_local.specs.StandsFor.{Record, StandsFor, StandsAs}
 use Rattle.task_machine.specs.Machine.{leave_move}
 use Rattle.core_book.specs.declared.posting.Posting.{Posting}
-use Rattle.task_local.specs.Standing.{def_of, at_phase, phase_before, GoesTo}
+use Rattle.task_local.specs.Standing.{def_of, phase_before, GoesTo}
 use Rattle.task_machine.specs.Legal.{final}
-use Rattle.task_machine.proofs.Lists.{slice_set_same}
-use Rattle.core_book.specs.Ledger.{Ledger, IsBlocking, IsInPosting, record_at}
-use Rattle.core_book.specs.Kept.{Shelf, KeepsState, PostsAs, state_now, told_now}
+use Rattle.task_machine.specs.Laws.{is_blocking_call}
+use Rattle.core_book.specs.Ledger.{Ledger, record_at}
+use Rattle.core_book.specs.Kept.{Shelf, IsInBlocking, KeepsState, PostsAs, state_now, tells_now, told_now}
 use Rattle.core_book.proofs.After.{Changes}
 use Rattle.core_book.proofs.Changes.{leave_changes}
 use Rattle.core_book.proofs.Questions.{awaited_is}
-use Rattle.core_book.proofs.Moved.{IsMoved, ledger_of, still_held}
-use Rattle.core_book.proofs.Held.{Held, held_at, handed_of, stands_before, stop_is_held, may_move}
+use Rattle.core_book.proofs.Moved.{IsMoved, gone_kept, ledger_of}
+use Rattle.core_book.proofs.Opened.{opened-row}
+use Rattle.core_book.proofs.Tells.{blocking_there, tell_next}
+use Rattle.core_book.proofs.Held.{Held, held_at, handed_of, stands_before, stop_is_held, may_move, told_room}
 use Rattle.core_book.proofs.CallLemmas.{posting_found, posting_is, operation_is}
 
-same_place : (j k : ℕ) → at.In j ≡ at.In k → j ≡ k
-same_place j k same = cc
-
--- the posting in which the task is
-blocked_in : (def : TaskDef) (stands : Phase) (found : At) (k : ℕ) → IsInPosting def stands → found ≡ at_phase def stands → found ≡ at.In k
-    → (stands ≡ phase.In k) × IsBlocking (slice_get def.body.items k)
-blocked_in def phase.Waiting found k inside is place = absurd inside
-blocked_in def (phase.At j) found k inside is place = absurd inside
-blocked_in def (phase.In j) found k inside is place =
-    let same : j ≡ k = same_place j k (sym is ∙ place) in
-    (ap phase.In same, subst (λ (n : ℕ). IsBlocking (slice_get def.body.items n)) same inside)
-blocked_in def phase.Ended found k inside is place = absurd inside
-blocked_in def phase.Returned found k inside is place = absurd inside
-blocked_in def phase.Released found k inside is place = absurd inside
-
--- a task that waits in a posting, as its record and the machine's state have it
-pub record Inside (shelf : Shelf) (held : Record) (t k : ℕ) (def : TaskDef) (posting : Posting) : Type 0 where
+-- a task that is in an operation, as its record and the machine's state have it
+pub record Within (shelf : Shelf) (held : Record) (t k : ℕ) (def : TaskDef) : Type 0 where
   pub here : Held shelf held t def (phase.In k)
   pub may : MayMove shelf.program (state_now shelf) t
+  pub blocking : is_blocking_call (slice_get def.body.items k) ≡ true
+
+pub is_blocked : (shelf : Shelf) (held : Record) (t k : ℕ) (def : TaskDef) → KeepsState shelf → Held shelf held t def (phase.In k)
+    → is_blocking_call (slice_get def.body.items k) ≡ true
+is_blocked shelf held t k def kept here = subst (IsInBlocking def) here.stands.0 (kept.tidy.blocking t def here.was here.is_def here.is_task)
+
+pub is_within : (shelf : Shelf) (held : Record) (t k : ℕ) (def : TaskDef) (l : Ledger) (prog : Program) → KeepsState shelf → ledger_of shelf ≡ l
+    → prog ≡ l.program → StandsFor prog held (final prog l.history) → MayMove prog (final prog l.history) held.task → t ≡ held.task
+    → slice_get prog.tasks.items t ≡ Some def → held.phase ≡ phase.In k → Within shelf held t k def
+is_within shelf held t k def l prog kept view same stands may who is_def place =
+    let here = held_at shelf held t def (phase.In k) l prog view same stands who is_def place in
+    record { here = here; may = may_move shelf held t l prog view same may who; blocking = is_blocked shelf held t k def kept here }
+
+pub within_body : (shelf : Shelf) (held : Record) (t k : ℕ) (def : TaskDef) → Within shelf held t k def → k < length def.body.items
+within_body shelf held t k def w =
+    let there = blocking_there (slice_get def.body.items k) w.blocking in
+    slice_get_within def.body.items k there.0 there.1
+
+-- a task that waits in a posting
+pub record Inside (shelf : Shelf) (held : Record) (t k : ℕ) (def : TaskDef) (posting : Posting) : Type 0 where
+  pub in_it : Within shelf held t k def
   pub posts : PostsAs (slice_get def.body.items k) posting
-  pub blocking : blocks posting.how ≡ true
 
--- where a record stands in a posting, its task is that of the program
-own_blocking : (shelf : Shelf) (held : Record) (t k : ℕ) (def : TaskDef) → Held shelf held t def (phase.In k)
-    → IsBlocking (slice_get (def_of held.program held.task).body.items k) → IsBlocking (slice_get def.body.items k)
-own_blocking shelf held t k def here blocking = subst (λ (d : TaskDef). IsBlocking (slice_get d.body.items k)) here.held_def blocking
-
-pub blocking_here : (shelf : Shelf) (held : Record) (t k : ℕ) (def : TaskDef) (found : At) (l : Ledger) (prog : Program) → ledger_of shelf ≡ l
-    → prog ≡ l.program
-    → StandsFor prog held (final prog l.history) → IsInPosting (def_of held.program held.task) held.phase → t ≡ held.task
-    → slice_get prog.tasks.items t ≡ Some def
-    → found ≡ at_phase (def_of held.program held.task) held.phase → found ≡ at.In k
-    → Held shelf held t def (phase.In k) × IsBlocking (slice_get def.body.items k)
-blocking_here shelf held t k def found l prog view same stands before who is_def read is =
-    let blocked = blocked_in (def_of held.program held.task) held.phase found k before read is in
-    let here = held_at shelf held t def (phase.In k) l prog view same stands who is_def blocked.0 in
-    (here, own_blocking shelf held t k def here blocked.1)
-
-pub inside : (shelf : Shelf) (held : Record) (t k : ℕ) (def : TaskDef) (posting : Posting) (found : At) (l : Ledger) (prog : Program) → ledger_of shelf ≡ l
-    → prog ≡ l.program
-    → StandsFor prog held (final prog l.history) → MayMove prog (final prog l.history) held.task → IsInPosting (def_of held.program held.task) held.phase
-    → t ≡ held.task → slice_get prog.tasks.items t ≡ Some def → found ≡ at_phase (def_of held.program held.task) held.phase → found ≡ at.In k
-    → PostsAs (slice_get def.body.items k) posting → Inside shelf held t k def posting
-inside shelf held t k def posting found l prog view same stands may before who is_def read is posts =
-    let both = blocking_here shelf held t k def found l prog view same stands before who is_def read is in
-    record {
-      here = both.0;
-      may = may_move shelf held t l prog view same may who;
-      posts = posts;
-      blocking = subst IsBlocking posts.is both.1;
-    }
-
-there : (ops : List Op) (k : ℕ) (o : Option Op) → slice_get ops k ≡ o → IsBlocking o → k < length ops
-there ops k None is blocking = absurd blocking
-there ops k (Some x) is blocking = slice_get_within ops k x is
-
-pub blocking_within : (def : TaskDef) (k : ℕ) → IsBlocking (slice_get def.body.items k) → k < length def.body.items
-blocking_within def k blocking = there def.body.items k (slice_get def.body.items k) refl blocking
+pub inside : (shelf : Shelf) (held : Record) (t k : ℕ) (def : TaskDef) (posting : Posting) (l : Ledger) (prog : Program) → KeepsState shelf
+    → ledger_of shelf ≡ l → prog ≡ l.program → StandsFor prog held (final prog l.history) → MayMove prog (final prog l.history) held.task → t ≡ held.task
+    → slice_get prog.tasks.items t ≡ Some def → held.phase ≡ phase.In k → PostsAs (slice_get (def_of held.program held.task).body.items k) posting
+    → Inside shelf held t k def posting
+inside shelf held t k def posting l prog kept view same stands may who is_def place posts =
+    let w = is_within shelf held t k def l prog kept view same stands may who is_def place in
+    record { in_it = w; posts = subst (λ (d : TaskDef). PostsAs (slice_get d.body.items k) posting) w.here.held_def posts }
 
 -- the task's move, as it stands in the operation
-pub enabled_in : (shelf : Shelf) (held : Record) (t k : ℕ) (def : TaskDef) (posting : Posting) → Inside shelf held t k def posting
+pub enabled_in : (shelf : Shelf) (held : Record) (t k : ℕ) (def : TaskDef) → Within shelf held t k def
     → AreComplete shelf.program (state_now shelf).exchange (awaited t def k)
-enabled_in shelf held t k def posting i =
+enabled_in shelf held t k def i =
     let p : Program = shelf.program in
     let s : State = state_now shelf in
     let was : Task = i.here.was in
@@ -124,9 +100,9 @@ complete_in shelf held t k def posting i =
     let req : ReqNo = request t (nth_at def k) in
     let listed : awaited t def k ≡ req ∷ [] =
     awaited_is t def k (op.Post posting.how posting.span i.posts.peer i.posts.tag i.posts.comm posting.status) i.posts.is
-    ∙ ap (λ (b : Bool). cond b (req ∷ []) []) i.blocking in
+    ∙ ap (λ (b : Bool). cond b (req ∷ []) []) (sym (ap is_blocking_call i.posts.is) ∙ i.in_it.blocking) in
     let all : AreComplete shelf.program (state_now shelf).exchange (req ∷ []) =
-    subst (AreComplete shelf.program (state_now shelf).exchange) listed (enabled_in shelf held t k def posting i) in
+    subst (AreComplete shelf.program (state_now shelf).exchange) listed (enabled_in shelf held t k def i.in_it) in
     all.0
 
 pub is_done : (shelf : Shelf) (held : Record) (t k n : ℕ) (def : TaskDef) (posting : Posting) → KeepsState shelf → Inside shelf held t k def posting
@@ -169,13 +145,13 @@ received_fit shelf held t k n def posting cells kept i nth received =
     subst (λ (z : List ℤ). length z ≤ span_len posting.span)
     (sym (received ∙ ap (λ (z : Program). request_cells z shelf.engine.exchange (request t n)) kept.engine_of
     ∙ ap (λ (m : ℕ). request_cells shelf.program shelf.engine.exchange (request t m)) nth))
-    (cells_fit shelf.program shelf.engine.exchange (request t (nth_at def k)) posting (posts_request shelf.program t k def posting i.here.is_def i.posts))
+    (cells_fit shelf.program shelf.engine.exchange (request t (nth_at def k)) posting (posts_request shelf.program t k def posting i.in_it.here.is_def i.posts))
 
 -- what a well-formed program says of the posting
 posting_allowed : (shelf : Shelf) (held : Record) (t k : ℕ) (def : TaskDef) (posting : Posting) → KeepsState shelf → (i : Inside shelf held t k def posting)
     → IsPostingOf shelf.program def posting.how posting.span i.posts.peer i.posts.tag posting.status
 posting_allowed shelf held t k def posting kept i =
-    (operation_is shelf.program t k def (op.Post posting.how posting.span i.posts.peer i.posts.tag i.posts.comm posting.status) kept.well i.here.is_def
+    (operation_is shelf.program t k def (op.Post posting.how posting.span i.posts.peer i.posts.tag i.posts.comm posting.status) kept.well i.in_it.here.is_def
     i.posts.is).0
 
 span_declared : (p : Program) (def : TaskDef) (kind : How) (span : Span) (whom : Peer) (selected : TagSel) (status : Option Span)
@@ -219,7 +195,7 @@ has_status p def how.Irecv span whom selected (Some cells) allowed = absurd allo
 pub stores : (shelf : Shelf) (held : Record) (t k : ℕ) (def : TaskDef) (posting : Posting) → KeepsState shelf → Inside shelf held t k def posting
     → IsDeclared (def_of held.program held.task).accesses.items posting.span
 stores shelf held t k def posting kept i =
-    subst (λ (d : TaskDef). IsDeclared d.accesses.items posting.span) (sym i.here.held_def)
+    subst (λ (d : TaskDef). IsDeclared d.accesses.items posting.span) (sym i.in_it.here.held_def)
     (span_declared shelf.program def posting.how posting.span i.posts.peer i.posts.tag posting.status (posting_allowed shelf held t k def posting kept i))
 
 own_status : (shelf : Shelf) (held : Record) (t k : ℕ) (def : TaskDef) (posting : Posting) → KeepsState shelf → Inside shelf held t k def posting
@@ -232,7 +208,7 @@ pub status_received : (shelf : Shelf) (held : Record) (t k : ℕ) (def : TaskDef
 status_received shelf held t k def posting kept i = (own_status shelf held t k def posting kept i).receive
 
 -- the record after the cells are stored
-stored_def : (held stored : Record) (def : TaskDef) (copy : List ℤ) → def_of held.program held.task ≡ def → stored ≡ record held { copy = copy }
+pub stored_def : (held stored : Record) (def : TaskDef) (copy : List ℤ) → def_of held.program held.task ≡ def → stored ≡ record held { copy = copy }
     → def_of stored.program stored.task ≡ def
 stored_def held stored def copy held_def went = ap (λ (z : Record). def_of z.program z.task) went ∙ held_def
 
@@ -242,23 +218,33 @@ pub status_declared : (shelf : Shelf) (held stored : Record) (t k : ℕ) (def : 
     → IfSome posting.status (λ (span : Span). IsDeclared (def_of stored.program stored.task).accesses.items span × (span_len span ≡ 4))
 status_declared shelf held stored t k def posting copy kept i went =
     subst (λ (d : TaskDef). IfSome posting.status (λ (span : Span). IsDeclared d.accesses.items span × (span_len span ≡ 4)))
-    (sym (stored_def held stored def copy i.here.held_def went)) (own_status shelf held t k def posting kept i).declared
+    (sym (stored_def held stored def copy i.in_it.here.held_def went)) (own_status shelf held t k def posting kept i).declared
+
+-- there is room for the status of a posting
+pub status_room : (shelf : Shelf) (held : Record) (t k : ℕ) (def : TaskDef) (posting : Posting) → KeepsState shelf → Inside shelf held t k def posting
+    → length shelf.statuses < shelf.status_places
+status_room shelf held t k def posting kept i =
+    let room = told_room shelf held t def (phase.In k) (phase.In k) kept i.in_it.here i.in_it.here.stands.0 in
+    let x : Op = op.Post posting.how posting.span i.posts.peer i.posts.tag i.posts.comm posting.status in
+    let next = tell_next def k x i.posts.is in
+    let one : tells_now x ≡ 1 = refl in
+    omega arith
 
 in_waits : (stands : Phase) (k : ℕ) → stands ≡ phase.In k → stands ≡ phase.Waiting → ⊥
 in_waits stands k is waiting = cc
 
-pub is_started : (shelf : Shelf) (held : Record) (t k : ℕ) (def : TaskDef) (posting : Posting) → Inside shelf held t k def posting → held.phase ≢ phase.Waiting
-is_started shelf held t k def posting i = λ e. in_waits held.phase k i.here.place e
+pub is_started : (shelf : Shelf) (held : Record) (t k : ℕ) (def : TaskDef) → Within shelf held t k def → held.phase ≢ phase.Waiting
+is_started shelf held t k def i = λ e. in_waits held.phase k i.here.place e
 
-pub stored_started : (shelf : Shelf) (held stored : Record) (t k : ℕ) (def : TaskDef) (posting : Posting) (copy : List ℤ) → Inside shelf held t k def posting
+pub stored_started : (shelf : Shelf) (held stored : Record) (t k : ℕ) (def : TaskDef) (copy : List ℤ) → Within shelf held t k def
     → stored ≡ record held { copy = copy } → stored.phase ≢ phase.Waiting
-stored_started shelf held stored t k def posting copy i went = λ e. in_waits held.phase k i.here.place (sym (ap (λ (z : Record). z.phase) went) ∙ e)
+stored_started shelf held stored t k def copy i went = λ e. in_waits held.phase k i.here.place (sym (ap (λ (z : Record). z.phase) went) ∙ e)
 
 -- where the record goes on
-pub goes_on : (shelf : Shelf) (held stored put_both : Record) (t k : ℕ) (def : TaskDef) (posting : Posting) (copy copy' : List ℤ) (next : Phase)
-    → Inside shelf held t k def posting → stored ≡ record held { copy = copy } → put_both ≡ record stored { copy = copy' } → next ≡ phase_before def (k + 1)
+pub goes_on : (shelf : Shelf) (held stored put_both : Record) (t k : ℕ) (def : TaskDef) (copy copy' : List ℤ) (next : Phase)
+    → Within shelf held t k def → stored ≡ record held { copy = copy } → put_both ≡ record stored { copy = copy' } → next ≡ phase_before def (k + 1)
     → GoesTo (def_of put_both.program put_both.task) put_both.phase next
-goes_on shelf held stored put_both t k def posting copy copy' next i went went' is =
+goes_on shelf held stored put_both t k def copy copy' next i went went' is =
     let whole : put_both ≡ record held { copy = copy' } = went' ∙ ap (λ (z : Record). record z { copy = copy' }) went in
     let follows : GoesTo (def_of held.program held.task) (phase.In k) next = is ∙ ap (λ (d : TaskDef). phase_before d (k + 1)) (sym i.here.held_def) in
     subst (λ (z : Record). GoesTo (def_of z.program z.task) z.phase next) (sym whole)
@@ -284,7 +270,7 @@ taken_is p e t k def posting copy posts =
     ap (λ (o : Option Op). put_at_posting def o (request_cells p e req) copy) among in
     rw (told_is p e t k def posting posts, posts.is) (ap (put_statuses def posting.status (told_now p e req posting.how)) stored)
 
-told_here : (shelf : Shelf) (t k n : ℕ) (def : TaskDef) (posting : Posting) → KeepsState shelf → PostsAs (slice_get def.body.items k) posting → n ≡ nth_at def k
+pub told_here : (shelf : Shelf) (t k n : ℕ) (def : TaskDef) (posting : Posting) → KeepsState shelf → PostsAs (slice_get def.body.items k) posting → n ≡ nth_at def k
     → told_now shelf.engine.program shelf.engine.exchange (request t n) posting.how ≡ told shelf.program (state_now shelf).exchange t def k
 told_here shelf t k n def posting kept posts nth =
     ap (λ (z : Program). told_now z shelf.engine.exchange (request t n) posting.how) kept.engine_of
@@ -300,11 +286,10 @@ cells_here shelf t n m kept nth =
     ∙ ap (λ (i : ℕ). request_cells shelf.program (state_now shelf).exchange (request t i)) nth
 
 -- the calls of a leave, by what they answer
-pub record Leaves (shelf : Shelf) (statuses : List Status) (entries : List Entry) (t k n from count : ℕ) (def : TaskDef) (posting : Posting) : Type 0 where
-  pub nth : n ≡ nth_at def k
+pub record Leaves (shelf : Shelf) (statuses : List Status) (entries : List Entry) (t k from count : ℕ) (tells : List Status) : Type 0 where
   pub from_is : from ≡ length shelf.statuses
-  pub count_is : count ≡ length (told_now shelf.engine.program shelf.engine.exchange (request t n) posting.how)
-  pub statuses_are : statuses ≡ shelf.statuses ++ told_now shelf.engine.program shelf.engine.exchange (request t n) posting.how
+  pub count_is : count ≡ length tells
+  pub statuses_are : statuses ≡ shelf.statuses ++ tells
   pub entries_are : entries ≡ shelf.entries ++ entry.Leave (task_no t) k from count ∷ []
 
 entry_is : (s : State) (es es' : List Entry) (ss : List Status) (t k from count : ℕ) (here more : List Status) → ss ≡ s.statuses → from ≡ length ss
@@ -314,9 +299,6 @@ entry_is s es es' ss t k from count here more are from_is count_is same grown =
     grown ∙ ap (λ (i : ℕ). es ++ entry.Leave (task_no t) k i count ∷ []) (from_is ∙ ap (λ (z : List Status). length z) are)
     ∙ ap (λ (i : ℕ). es ++ entry.Leave (task_no t) k (length s.statuses) i ∷ []) (count_is ∙ ap (λ (z : List Status). length z) same)
 
-statuses_more : (s : State) (ss ss' here more : List Status) → ss ≡ s.statuses → here ≡ more → ss' ≡ ss ++ here → ss' ≡ s.statuses ++ more
-statuses_more s ss ss' here more are same grown = grown ∙ ap (λ (z : List Status). z ++ here) are ∙ ap (λ (z : List Status). s.statuses ++ z) same
-
 -- the task after its leave
 abbrev pub left_task : Shelf → ℕ → ℕ → TaskDef → Task → Task
 left_task shelf t k def was = record was {
@@ -324,36 +306,43 @@ left_task shelf t k def was = record was {
   copy = advanced def (k + 1) (taken shelf.program (state_now shelf).exchange t def k was.copy);
 }
 
-pub leave_changed : (shelf : Shelf) (held : Record) (t k : ℕ) (def : TaskDef) (posting : Posting) → KeepsState shelf → (i : Inside shelf held t k def posting)
+pub leave_changed : (shelf : Shelf) (held : Record) (t k : ℕ) (def : TaskDef) → KeepsState shelf → (i : Within shelf held t k def)
     → Changes shelf.program (state_now shelf) t def i.here.was (left_task shelf t k def i.here.was)
     (leave_move shelf.program (state_now shelf) t def i.here.was k).state
     (leave_move shelf.program (state_now shelf) t def i.here.was k).entry
-leave_changed shelf held t k def posting kept i =
-    leave_changes shelf.program (state_now shelf) t def i.here.was k posting i.here.is_def i.here.is_task i.here.stands.0 i.posts i.may kept.tidy
+leave_changed shelf held t k def kept i =
+    leave_changes shelf.program (state_now shelf) t def i.here.was k i.here.is_def i.here.is_task i.here.stands.0 i.may kept.tidy
 
-pub leave_moved : (shelf : Shelf) (held : Record) (t k n from count : ℕ) (def : TaskDef) (posting : Posting) (next : Phase) (statuses : List Status)
-    (entries : List Entry)
-    (entry_places status_places : ℕ) → KeepsState shelf → (i : Inside shelf held t k def posting) → Leaves shelf statuses entries t k n from count def posting
-    → next ≡ stop def (k + 1) → shelf.entry_places ≤ entry_places → shelf.status_places ≤ status_places
-    → IsMoved shelf (record shelf {
-      phases = slice_set shelf.phases t next;
-      entries = entries;
-      statuses = statuses;
-      entry_places = entry_places;
-      status_places = status_places;
-    }) t (left_task shelf t k def i.here.was) (leave_move shelf.program (state_now shelf) t def i.here.was k).state
+-- the insides after a leave
+abbrev pub shelf_left : Shelf → ℕ → Phase → List Status → List Entry → List ReqNo → ℕ → ℕ → ℕ → Shelf
+shelf_left shelf t next statuses entries listed entry_places status_places opened_places = record shelf {
+  phases = slice_set shelf.phases t next;
+  entries = entries;
+  statuses = statuses;
+  opened = listed;
+  entry_places = entry_places;
+  status_places = status_places;
+  opened_places = opened_places;
+}
+
+pub leave_moved : (shelf : Shelf) (held : Record) (t k from count : ℕ) (def : TaskDef) (tells : List Status) (next : Phase) (statuses : List Status)
+    (entries : List Entry) (listed : List ReqNo)
+    (entry_places status_places opened_places : ℕ) → KeepsState shelf → (i : Within shelf held t k def) → Leaves shelf statuses entries t k from count tells
+    → tells ≡ told shelf.program (state_now shelf).exchange t def k
+    → next ≡ stop def (k + 1) → listed ≡ [] → shelf.entry_places ≤ entry_places → shelf.status_places ≤ status_places → shelf.opened_places ≤ opened_places
+    → IsMoved shelf (shelf_left shelf t next statuses entries listed entry_places status_places opened_places) t (left_task shelf t k def i.here.was)
+    (leave_move shelf.program (state_now shelf) t def i.here.was k).state
     (leave_move shelf.program (state_now shelf) t def i.here.was k).entry
-leave_moved shelf held t k n from count def posting next statuses entries entry_places status_places kept i leaves stops more more' =
+leave_moved shelf held t k from count def tells next statuses entries listed entry_places status_places opened_places kept i leaves same stops none more
+    more' more'' =
     let s : State = state_now shelf in
-    let same = told_here shelf t k n def posting kept i.posts leaves.nth in
-    let marks = still_held shelf t i.here.was kept i.here.is_task (ap is_released i.here.stands.0) in
     record {
       program = refl;
       workers = refl;
       handed = handed_of shelf held t def (phase.In k) (phase.In k) kept i.here i.here.stands.0 (λ e. absurd (cc e));
       marks = refl;
       of_program = refl;
-      gone = sym (ap (slice_set shelf.ready.gone.released t) (stop_is_held def (k + 1)) ∙ slice_set_same shelf.ready.gone.released t false marks);
+      gone = gone_kept shelf t i.here.was _ kept i.here.is_task (ap is_released i.here.stands.0) (stop_is_held def (k + 1));
       whole = kept.whole;
       engine = refl;
       exchange = kept.exchange_is;
@@ -361,10 +350,12 @@ leave_moved shelf held t k n from count def posting next statuses entries entry_
       memory = kept.memory_is;
       notices = kept.notices_are;
       entries = entry_is s shelf.entries entries shelf.statuses t k from count _ _ kept.legal.told leaves.from_is leaves.count_is same leaves.entries_are;
-      statuses = statuses_more s shelf.statuses statuses _ _ kept.legal.told same leaves.statuses_are;
+      statuses = leaves.statuses_are ∙ ap (λ (z : List Status). z ++ tells) kept.legal.told ∙ ap (λ (z : List Status). s.statuses ++ z) same;
+      opened = none ∙ sym (opened-row shelf.program s t def i.here.was (phase.In k) i.here.is_def i.here.is_task i.here.stands.0);
       entry_places = more;
       status_places = more';
       notice_places = omega arith;
+      opened_places = more'';
     }
 
 -- the copy after both stores
@@ -374,16 +365,16 @@ copy_taken : (shelf : Shelf) (held stored : Record) (t k n : ℕ) (def : TaskDef
     → stored ≡ record held { copy = put (def_of held.program held.task) posting.span cells held.copy }
     → copy' ≡ put_statuses (def_of stored.program stored.task) posting.status
     (told_now shelf.engine.program shelf.engine.exchange (request t n) posting.how) stored.copy
-    → copy' ≡ taken shelf.program (state_now shelf).exchange t def k i.here.was.copy
+    → copy' ≡ taken shelf.program (state_now shelf).exchange t def k i.in_it.here.was.copy
 copy_taken shelf held stored t k n def posting cells copy' kept i nth received went is =
     let p : Program = shelf.program in
     let e : Exchange = (state_now shelf).exchange in
-    let was : Task = i.here.was in
+    let was : Task = i.in_it.here.was in
     let tells : List Status = told_now shelf.engine.program shelf.engine.exchange (request t n) posting.how in
-    let after = stored_def held stored def (put (def_of held.program held.task) posting.span cells held.copy) i.here.held_def went in
+    let after = stored_def held stored def (put (def_of held.program held.task) posting.span cells held.copy) i.in_it.here.held_def went in
     let first : stored.copy ≡ put def posting.span (request_cells p e (request t (nth_at def k))) was.copy =
-    ap (λ (z : Record). z.copy) went ∙ ap (λ (d : TaskDef). put d posting.span cells held.copy) i.here.held_def
-    ∙ ap (put def posting.span cells) i.here.stands.1
+    ap (λ (z : Record). z.copy) went ∙ ap (λ (d : TaskDef). put d posting.span cells held.copy) i.in_it.here.held_def
+    ∙ ap (put def posting.span cells) i.in_it.here.stands.1
     ∙ ap (λ (z : List ℤ). put def posting.span z was.copy) (received ∙ cells_here shelf t n (nth_at def k) kept nth) in
     let same : tells ≡ told_now p e (request t (nth_at def k)) posting.how = told_here shelf t k n def posting kept i.posts nth
     ∙ told_is p e t k def posting i.posts in
@@ -400,22 +391,22 @@ pub leave_left : (shelf : Shelf) (held stored put_both after : Record) (t k n : 
       copy = put_statuses (def_of stored.program stored.task) posting.status
           (told_now shelf.engine.program shelf.engine.exchange (request t n) posting.how) stored.copy;
     } → next ≡ phase_before def (k + 1) → after ≡ record put_both { phase = next }
-    → after ≡ record held { phase = phase_before def (k + 1); copy = taken shelf.program (state_now shelf).exchange t def k i.here.was.copy }
+    → after ≡ record held { phase = phase_before def (k + 1); copy = taken shelf.program (state_now shelf).exchange t def k i.in_it.here.was.copy }
 leave_left shelf held stored put_both after t k n def posting next cells kept i nth received went went' is goes =
     let both : List ℤ =
     put_statuses (def_of stored.program stored.task) posting.status (told_now shelf.engine.program shelf.engine.exchange
     (request t n) posting.how) stored.copy in
-    let copied : both ≡ taken shelf.program (state_now shelf).exchange t def k i.here.was.copy =
+    let copied : both ≡ taken shelf.program (state_now shelf).exchange t def k i.in_it.here.was.copy =
     copy_taken shelf held stored t k n def posting cells both kept i nth received went refl in
     goes ∙ ap (λ (z : Record). record z { phase = next }) (went' ∙ ap (λ (z : Record). record z { copy = both }) went)
     ∙ ap (λ (q : Phase). record held { copy = both; phase = q }) is
     ∙ ap (λ (z : List ℤ). record held { copy = z; phase = phase_before def (k + 1) }) copied
 
 -- the same, by the record alone
-pub leave_record : (shelf : Shelf) (held after : Record) (t k : ℕ) (def : TaskDef) (posting : Posting) → (i : Inside shelf held t k def posting)
+pub leave_record : (shelf : Shelf) (held after : Record) (t k : ℕ) (def : TaskDef) → (i : Within shelf held t k def)
     → after ≡ record held { phase = phase_before def (k + 1); copy = taken shelf.program (state_now shelf).exchange t def k i.here.was.copy }
     → after ≡ record_at shelf.program (state_now shelf) def held (phase.In k)
-leave_record shelf held after t k def posting i left =
+leave_record shelf held after t k def i left =
     left ∙ ap (λ (u : ℕ). record held {
       phase = phase_before def (k + 1);
       copy = taken shelf.program

@@ -1,4 +1,7 @@
 pub mod Few
+pub mod Rooms
+pub mod Tells
+pub mod Opened
 pub mod After
 pub mod Stops
 pub mod Opening
@@ -15,4 +18,5 @@ pub mod CallLemmas
 pub mod Numbers
 pub mod CountCalls
 pub mod LeaveLemmas
+pub mod WaitLemmas
 pub mod Insides

@@ -10,7 +10,7 @@ use Rattle.rt_base.specs.declared.data.Status.{Status}
 use Rattle.rt_base.specs.declared.data.Entry.{Entry}
 use Rattle.rt_base.specs.declared.data.TaskDef.{TaskDef}
 use Rattle.rt_base.specs.declared.data.Program.{Program}
-use Rattle.rt_base.specs.Precedes.{GoneMore}
+use Rattle.rt_base.specs.Precedes.{GoneMore, LetGo}
 use Rattle.rt_base.specs.State.{State, Task, is_released, let_go}
 use Rattle.rt_base.specs.WellFormed.{WellFormed}
 use Rattle.region_deps.specs.Readiness.{IsWhole}
@@ -18,15 +18,15 @@ use Rattle.task_local.specs.StandsFor.{Record, StandsAs}
 use Rattle.task_local.specs.Standing.{def}
 use Rattle.task_machine.specs.Machine.{Moved, move, with_task}
 use Rattle.task_machine.specs.Legal.{final, IsLegal, phases_of}
-use Rattle.task_machine.specs.Course.{all_left, most_moves}
+use Rattle.task_machine.specs.Owed.{opened, last_opened}
 use Rattle.task_machine.proofs.Runs.{final-push, legal-push}
 use Rattle.task_machine.proofs.Lists.{slice_get-set_same, slice_set_same, slice_get-map}
-use Rattle.task_machine.proofs.Moves.{all_left-set}
 use Rattle.task_machine.proofs.Growth.{gone_by}
 use Rattle.core_book.specs.Ledger.{Ledger, MakesMove, record_at, record_after}
-use Rattle.core_book.specs.Kept.{Shelf, KeepsState, IsTidy, state_now, left_of}
+use Rattle.core_book.specs.Kept.{Shelf, HasRoom, HasRooms, KeepsState, IsTidy, entries_left, postings_left, state_now, to_tell}
 use Rattle.core_book.proofs.After.{Changes, tidy_after, phases_after, begun_after}
-use Rattle.core_book.proofs.Few.{few_moves}
+use Rattle.core_book.proofs.Opened.{last_opened-push}
+use Rattle.core_book.proofs.Rooms.{few_entries_at_first, room_goes_on}
 
 -- what a caller sees of the insides
 abbrev pub ledger_of : Shelf → Ledger
@@ -49,7 +49,7 @@ phase_read shelf t task k is_task =
 pub still_held : (shelf : Shelf) (t : ℕ) (was : Task) → KeepsState shelf → slice_get (state_now shelf).tasks t ≡ Some was → is_released was.phase ≡ false
     → slice_get shelf.ready.gone.released t ≡ Some false
 still_held shelf t was k is_task held =
-    ap (λ (z : List Bool). slice_get z t) k.gone_is ∙ slice_get-map (λ (z : Task). is_released z.phase) (state_now shelf).tasks t
+    ap (λ (g : LetGo). slice_get g.released t) k.gone_is ∙ slice_get-map (λ (z : Task). is_released z.phase) (state_now shelf).tasks t
     ∙ ap (option_map (λ (z : Task). is_released z.phase)) is_task ∙ ap Some held
 
 -- the insides after a move of task t: those of the state after it, with room for no less
@@ -59,7 +59,7 @@ pub record IsMoved (old new : Shelf) (t : ℕ) (now : Task) (state : State) (e :
   pub handed : slice_get old.ready.handed t ≡ Some true
   pub marks : new.ready.handed ≡ old.ready.handed
   pub of_program : new.ready.program ≡ old.ready.program
-  pub gone : new.ready.gone.released ≡ slice_set old.ready.gone.released t (is_released now.phase)
+  pub gone : new.ready.gone ≡ let_go state.tasks
   pub whole : IsWhole new.ready
   pub engine : new.engine.program ≡ old.engine.program
   pub exchange : new.engine.exchange ≡ state.exchange
@@ -68,22 +68,46 @@ pub record IsMoved (old new : Shelf) (t : ℕ) (now : Task) (state : State) (e :
   pub notices : new.notices ≡ state.notices
   pub entries : new.entries ≡ old.entries ++ e ∷ []
   pub statuses : new.statuses ≡ state.statuses
+  pub opened : new.opened ≡ opened old.program (state_now old) t
   pub entry_places : old.entry_places ≤ new.entry_places
   pub status_places : old.status_places ≤ new.status_places
   pub notice_places : old.notice_places ≤ new.notice_places
+  pub opened_places : old.opened_places ≤ new.opened_places
 
--- a move of task t alone, that tells nothing and takes no message
-pub moved_alone : (shelf : Shelf) (t : ℕ) (was now : Task) (e : Entry) (at : Phase) (entries : List Entry) (places : ℕ) → KeepsState shelf
+-- what the tasks have let go of, where a task moves that holds its regions before and after
+gone_same : (tasks : List Task) (t : ℕ) (was now : Task) → slice_get tasks t ≡ Some was → is_released was.phase ≡ false → is_released now.phase ≡ false
+    → let_go tasks ≡ let_go (slice_set tasks t now)
+gone_same tasks t was now is_task held held' =
+    let marks : List Bool = map (λ (z : Task). is_released z.phase) tasks in
+    let here : slice_get marks t ≡ Some false = slice_get-map (λ (z : Task). is_released z.phase) tasks t
+    ∙ ap (option_map (λ (z : Task). is_released z.phase)) is_task ∙ ap Some held in
+    ap (λ (r : List Bool). record { released = r })
+    (sym (slice_set_same marks t false here) ∙ ap (slice_set marks t) (sym held') ∙ sym (map-set (λ (z : Task). is_released z.phase) tasks t now))
+
+pub gone_kept : (shelf : Shelf) (t : ℕ) (was now : Task) → KeepsState shelf → slice_get (state_now shelf).tasks t ≡ Some was
+    → is_released was.phase ≡ false → is_released now.phase ≡ false → shelf.ready.gone ≡ let_go (slice_set (state_now shelf).tasks t now)
+gone_kept shelf t was now k is_task held held' = k.gone_is ∙ gone_same (state_now shelf).tasks t was now is_task held held'
+
+-- a move of task t alone, that tells nothing, takes no message and opens nothing
+pub moved_alone : (shelf : Shelf) (t : ℕ) (was now : Task) (e : Entry) (at : Phase) (entries : List Entry) (found : List ReqNo) (places places' : ℕ)
+    → KeepsState shelf
     → slice_get (state_now shelf).tasks t ≡ Some was → is_released was.phase ≡ false → is_released now.phase ≡ false → slice_get shelf.ready.handed t ≡ Some true
-    → at ≡ now.phase → entries ≡ shelf.entries ++ e ∷ [] → shelf.entry_places ≤ places
-    → IsMoved shelf (record shelf { phases = slice_set shelf.phases t at; entries = entries; entry_places = places }) t now (with_task (state_now shelf) t now) e
-moved_alone shelf t was now e at entries places k is_task held held' handed stops grown more = record {
+    → at ≡ now.phase → entries ≡ shelf.entries ++ e ∷ [] → found ≡ opened shelf.program (state_now shelf) t → shelf.entry_places ≤ places
+    → shelf.opened_places ≤ places'
+    → IsMoved shelf (record shelf {
+      phases = slice_set shelf.phases t at;
+      entries = entries;
+      opened = found;
+      entry_places = places;
+      opened_places = places';
+    }) t now (with_task (state_now shelf) t now) e
+moved_alone shelf t was now e at entries found places places' k is_task held held' handed stops grown opens more more' = record {
   program = refl;
   workers = refl;
   handed = handed;
   marks = refl;
   of_program = refl;
-  gone = sym (ap (slice_set shelf.ready.gone.released t) held' ∙ slice_set_same shelf.ready.gone.released t false (still_held shelf t was k is_task held));
+  gone = gone_kept shelf t was now k is_task held held';
   whole = k.whole;
   engine = refl;
   exchange = k.exchange_is;
@@ -92,9 +116,11 @@ moved_alone shelf t was now e at entries places k is_task held held' handed stop
   notices = k.notices_are;
   entries = grown;
   statuses = k.legal.told;
+  opened = opens;
   entry_places = more;
   status_places = omega arith;
   notice_places = omega arith;
+  opened_places = more';
 }
 
 -- the state after the longer history
@@ -113,32 +139,33 @@ gone_more old new t def was now state e c m held =
     gone_by (state_now old).tasks (state_now new).tasks t was now c.is_task held
     (ap (λ (z : State). z.tasks) (moved_state old new t def was now state e c m) ∙ c.tasks)
 
--- how much is left after a move, and how much the lists have grown
-record Grows (old new : Shelf) : Type 0 where
-  fewer : left_of new + 1 ≤ left_of old
-  most : most_moves new.program.tasks.items ≡ most_moves old.program.tasks.items
-  entries : length new.entries ≡ length old.entries + 1
-  statuses : length new.statuses ≤ length old.statuses + 1
-  notices : length new.notices ≤ length old.notices + 1
-
-grows : (old new : Shelf) (t : ℕ) (def : TaskDef) (was now : Task) (state : State) (e : Entry) → KeepsState old
-    → Changes old.program (state_now old) t def was now state e → IsMoved old new t now state e → Grows old new
-grows old new t def was now state e k c m =
-    let less = all_left-set old.program.tasks.items old.phases t def was.phase now.phase c.is_def (phase_read old t was k c.is_task) c.fewer in
+-- the rooms after a move
+rooms_after : (old new : Shelf) (t : ℕ) (def : TaskDef) (was now : Task) (state : State) (e : Entry) → KeepsState old
+    → Changes old.program (state_now old) t def was now state e → IsMoved old new t now state e → HasRooms new
+rooms_after old new t def was now state e k c m =
+    let defs : List TaskDef = old.program.tasks.items in
+    let here = phase_read old t was k c.is_task in
+    let fewer = c.fewer in
+    let noticed = c.noticed in
+    let told = c.told in
+    let entries = ap (λ (z : List Entry). length z) m.entries ∙ length-append old.entries (e ∷ []) in
+    let statuses = ap (λ (z : List Status). length z) k.legal.told in
+    let statuses' = ap (λ (z : List Status). length z) m.statuses in
+    let notices = ap (λ (z : List ReqNo). length z) k.notices_are in
+    let notices' = ap (λ (z : List ReqNo). length z) m.notices in
+    let seen = λ (f : TaskDef → Phase → ℕ) (items places : ℕ). λ (room : HasRoom f defs (slice_set old.phases t now.phase) items places).
+    subst (λ (q : Program). HasRoom f q.tasks.items new.phases items places) (sym m.program)
+    (subst (λ (z : List Phase). HasRoom f defs z items places) (sym m.phases) room) in
     record {
-      fewer = subst (λ (n : ℕ). n + 1 ≤ left_of old)
-          (sym (ap (λ (q : Program). all_left q.tasks.items new.phases) m.program ∙ ap (all_left old.program.tasks.items) m.phases)) less;
-      most = ap (λ (q : Program). most_moves q.tasks.items) m.program;
-      entries = ap (λ (z : List Entry). length z) m.entries ∙ length-append old.entries (e ∷ []);
-      statuses =
-          let before = ap (λ (z : List Status). length z) k.legal.told in
-          let after = ap (λ (z : List Status). length z) m.statuses in
-          let told = c.told in
-          omega arith;
-      notices =
-          let before = ap (λ (z : List ReqNo). length z) k.notices_are in
-          let after = ap (λ (z : List ReqNo). length z) m.notices in
-          let noticed = c.noticed in
+      entries = seen entries_left (length new.entries + length new.notices) new.entry_places
+          (room_goes_on entries_left defs old.phases t def was.phase now.phase _ _ _ _ k.rooms.entries c.is_def here (omega arith) m.entry_places);
+      statuses = seen to_tell (length new.statuses) new.status_places
+          (room_goes_on to_tell defs old.phases t def was.phase now.phase _ _ _ _ k.rooms.statuses c.is_def here (omega arith) m.status_places);
+      notices = seen postings_left (length new.notices) new.notice_places
+          (room_goes_on postings_left defs old.phases t def was.phase now.phase _ _ _ _ k.rooms.notices c.is_def here (omega arith) m.notice_places);
+      opened = λ u i d is_d.
+          let most = k.rooms.opened u i d (ap (λ (q : Program). slice_get q.tasks.items u) (sym m.program) ∙ is_d) in
+          let more = m.opened_places in
           omega arith;
     }
 
@@ -157,17 +184,9 @@ pub book_after : (old new : Shelf) (t : ℕ) (def : TaskDef) (was now : Task) (s
     → Changes old.program (state_now old) t def was now state e → IsMoved old new t now state e → KeepsState new
 book_after old new t def was now state e k c m =
     let end : state_now new ≡ state = moved_state old new t def was now state e c m in
-    let g = grows old new t def was now state e k c m in
-    let fewer = g.fewer in
-    let most = g.most in
-    let entries = g.entries in
-    let statuses = g.statuses in
-    let notices = g.notices in
     let phases : slice_set old.phases t now.phase ≡ phases_of state.tasks =
     ap (λ (z : List Phase). slice_set z t now.phase) k.phases_are ∙ phases_after (state_now old) state t now c.tasks in
-    let released : slice_set old.ready.gone.released t (is_released now.phase) ≡ (let_go state.tasks).released =
-    ap (λ (z : List Bool). slice_set z t (is_released now.phase)) k.gone_is ∙ sym (map-set (λ (z : Task). is_released z.phase) (state_now old).tasks t now)
-    ∙ ap (map (λ (z : Task). is_released z.phase)) (sym c.tasks) in
+    let exists = slice_get_within old.program.tasks.items t def c.is_def in
     record {
       well = subst WellFormed (sym m.program) k.well;
       legal = legal_after old new t def was now state e k c m;
@@ -175,7 +194,9 @@ book_after old new t def was now state e k c m =
       phases_are = m.phases ∙ phases ∙ ap (λ (z : State). phases_of z.tasks) (sym end);
       exchange_is = m.exchange ∙ ap (λ (z : State). z.exchange) (sym end);
       notices_are = m.notices ∙ ap (λ (z : State). z.notices) (sym end);
-      gone_is = m.gone ∙ released ∙ ap (λ (z : State). (let_go z.tasks).released) (sym end);
+      opened_are = m.opened ∙ sym (last_opened-push old.program old.entries t e exists c.who) ∙ ap (last_opened old.program) (sym m.entries)
+          ∙ ap (λ (q : Program). last_opened q new.entries) (sym m.program);
+      gone_is = m.gone ∙ ap (λ (z : State). let_go z.tasks) (sym end);
       tidy = subst (λ (q : Program). IsTidy q (state_now new)) (sym m.program)
           (subst (IsTidy old.program) (sym end) (tidy_after old.program (state_now old) t def was now state e k.tidy c));
       begun = λ u at here started. ap (λ (z : List Bool). slice_get z u) m.marks
@@ -183,11 +204,7 @@ book_after old new t def was now state e k c m =
       of_program = m.of_program ∙ k.of_program ∙ sym m.program;
       whole = m.whole;
       engine_of = m.engine ∙ k.engine_of ∙ sym m.program;
-      few_entries = let before = k.few_entries in omega arith;
-      few_statuses = let before = k.few_statuses in omega arith;
-      entry_room = let before = k.entry_room in let more = m.entry_places in omega arith;
-      status_room = let before = k.status_room in let more = m.status_places in omega arith;
-      notice_room = let before = k.notice_room in let more = m.notice_places in omega arith;
+      rooms = rooms_after old new t def was now state e k c m;
     }
 
 -- a move leaves the record to its task and its program
@@ -214,12 +231,13 @@ pub makes_move : (old new : Shelf) (before after : Record) (t : ℕ) (def : Task
     → (l : Ledger) → ledger_of old ≡ l → MakesMove l (ledger_of new) before after
 makes_move old new before after t d was now state e kept c m who of_program left stands l view =
     let p : Program = old.program in
-    let end : final p new.entries ≡ state = ap (λ (q : Program). final q new.entries) (sym m.program) ∙ moved_state old new t d was now state e c m in
+    let end : final p new.entries ≡ state = ap (λ (q : Program). final q new.entries) (sym m.program)
+    ∙ moved_state old new t d was now state e c m in
     let moved : move p (state_now old) before.task ≡ record { state = state; entry = e } = ap (move p (state_now old)) (sym who) ∙ c.moved in
     let task : after.task ≡ before.task = ap (λ (z : Record). z.task) left ∙ task_left p (state_now old) (def before) before before.phase in
     let mine : after.task ≡ t = task ∙ sym who in
-    let few = few_moves new.program kept.well in
-    let room = kept.few_entries in
+    let few = few_entries_at_first new.program kept.well in
+    let room = kept.rooms.entries.few in
     subst (λ (z : Ledger). MakesMove z (ledger_of new) before after) view (record {
       entry = m.entries ∙ ap (λ (z : Moved). old.entries ++ z.entry ∷ []) (sym moved);
       state = end ∙ ap (λ (z : Moved). z.state) (sym moved);
@@ -234,8 +252,8 @@ makes_move old new before after t d was now state e kept c m who of_program left
         def = d;
         task = now;
         is_def = ap (slice_get p.tasks.items) mine ∙ c.is_def;
-        is_task = ap (slice_get (final p new.entries).tasks) mine ∙ ap (λ (z : State). slice_get z.tasks t) end ∙ ap (λ (z : List Task). slice_get z t) c.tasks
-            ∙ slice_get-set_same (state_now old).tasks t now (slice_get_within (state_now old).tasks t was c.is_task);
+        is_task = ap (slice_get (final p new.entries).tasks) mine ∙ ap (λ (z : State). slice_get z.tasks t) end
+            ∙ ap (λ (z : List Task). slice_get z t) c.tasks ∙ slice_get-set_same (state_now old).tasks t now (slice_get_within (state_now old).tasks t was c.is_task);
         stands = stands;
       };
       left = left;

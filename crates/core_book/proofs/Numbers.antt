@@ -24,7 +24,7 @@ use Rattle.core_book.proofs.Changes.{nth_at-suc}
 use Rattle.core_book.proofs.Few.{few_operations}
 use Rattle.core_book.proofs.Held.{Held, read_at}
 use Rattle.core_book.proofs.CallLemmas.{Calls, call_within}
-use Rattle.core_book.proofs.LeaveLemmas.{Inside}
+use Rattle.core_book.proofs.LeaveLemmas.{Within, within_body}
 use Rattle.core_book.proofs.CountLemmas.{of_replicate}
 
 -- the numbers of a new book
@@ -119,11 +119,10 @@ leave_number shelf held t k def posting book here posts =
     ∙ ap Some (counts_more def k posting posts)
 
 -- a task leaves its posting
-pub leave_numbered : (shelf : Shelf) (held : Record) (t k : ℕ) (def : TaskDef) (posting : Posting) (at : Phase) → IsBook shelf
-    → Inside shelf held t k def posting
+pub leave_numbered : (shelf : Shelf) (held : Record) (t k : ℕ) (def : TaskDef) (at : Phase) → IsBook shelf → Within shelf held t k def
     → at ≡ stop def (k + 1) → IsNumbered shelf.program (slice_set shelf.phases t at) shelf.posted
-leave_numbered shelf held t k def posting at book i stops =
-    let within = call_within def k posting i.posts in
+leave_numbered shelf held t k def at book i stops =
+    let within = within_body shelf held t k def i in
     subst (λ (q : Phase). IsNumbered shelf.program (slice_set shelf.phases t q) shelf.posted) (sym stops)
     (numbered_on shelf.program shelf.phases shelf.posted t def (phase.In k) (stop def (k + 1)) book.numbered i.here.is_def
     (read_at shelf held t def (phase.In k) (phase.In k) book.kept i.here i.here.stands.0) (sym (posted_by-stop def (k + 1) (omega arith))))

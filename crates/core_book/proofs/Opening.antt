@@ -1,11 +1,11 @@
 -- A new book keeps the opening state.
-use Rattle.std.proofs.Common.{◌≡◌, ℕ, zero, suc, ◌∷◌, length, map, slice_get, Some, replicate, refl, ap}
+use Rattle.std.proofs.Common.{◌≡◌, ℕ, zero, suc, ◌∷◌, length, map, slice_get, Some, replicate, refl, sym, ap, subst}
 use Rattle.std.specs.Prelude.{pos}
 use Rattle.std.proofs.lemmas.List.{length-replicate}
 use Rattle.rt_base.specs.declared.data.Program.{Program}
 use Rattle.rt_base.specs.Layout.{memory_len}
 use Rattle.rt_base.specs.State.{Task, waiting_task, opening}
-use Rattle.core_book.specs.Kept.{IsTidy}
+use Rattle.core_book.specs.Kept.{IsInBlocking, IsTidy}
 
 -- what stands in a list of equal items
 pub in_replicate : {X : Type 0} (n : ℕ) (y : X) (i : ℕ) (x : X) → slice_get (replicate n y) i ≡ Some x → x ≡ y
@@ -26,5 +26,7 @@ opening_tidy p = record {
     ap (λ (x : Task). x.bound)
         (in_replicate (length p.tasks.items) waiting_task t task here),
   );
+  blocking = λ t def task is_def here.
+      subst (λ (x : Task). IsInBlocking def x.phase) (sym (in_replicate (length p.tasks.items) waiting_task t task here)) tt;
   posted = λ t n def task is_def is_task posted. absurd (cc);
 }

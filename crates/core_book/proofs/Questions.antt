@@ -77,7 +77,7 @@ may_move_is p s t def at here is_def result answer = (
 
 -- what the graph says of a task is what the machine's state says of it
 pub gone_of : (shelf : Shelf) → KeepsState shelf → shelf.ready.gone ≡ let_go (state_now shelf).tasks
-gone_of shelf k = ap (λ (r : List Bool). record { released = r }) k.gone_is
+gone_of shelf k = k.gone_is
 
 pub waiting_answer : (shelf : Shelf) (t : ℕ) (result : Bool) → KeepsState shelf → (IsTrue result ↔ MayStart shelf.ready.program shelf.ready.gone t)
     → IsTrue result ↔ MayStart shelf.program (let_go (state_now shelf).tasks) t

@@ -1,5 +1,5 @@
 -- How a book keeps the state after its history. No public clause cites this module.
-use Rattle.std.specs.Prelude.{◌≡◌, ◌≢◌, ℕ, ◌+◌, ◌-◌, ◌<◌, ◌≤◌, Bool, true, false, List, [], ◌∷◌, length, slice_get, slice_set, slice_index_or, count_by, ◌==◌, Option, Some, None, ℤ, not, ◌&&◌, ⊤, if◌then◌else◌}
+use Rattle.std.specs.Prelude.{◌≡◌, ◌≢◌, ℕ, ◌+◌, ◌-◌, ◌<◌, ◌≤◌, Bool, true, false, List, [], ◌∷◌, length, drop, sum_by, replicate, slice_get, slice_set, slice_index_or, count_by, ◌==◌, Option, Some, None, ℤ, not, ◌&&◌, ⊤, if◌then◌else◌}
 use Rattle.std.specs.List.{list_any}
 use Rattle.rt_base.specs.declared.data.ReqNo.{ReqNo}
 use Rattle.rt_base.specs.declared.data.Phase.{Phase}
@@ -14,7 +14,7 @@ use Rattle.rt_base.specs.declared.data.Entry.{Entry}
 use Rattle.rt_base.specs.declared.data.TaskDef.{TaskDef}
 use Rattle.rt_base.specs.declared.data.Program.{Program}
 use Rattle.rt_base.specs.Layout.{memory_len}
-use Rattle.rt_base.specs.Operations.{request, is_receive, posting_of}
+use Rattle.rt_base.specs.Operations.{request, is_receive, posting_of, postings, by_parts, by_parts_of}
 use Rattle.rt_base.specs.Matching.{same_request}
 use Rattle.rt_base.specs.Precedes.{LetGo, MayStart}
 use Rattle.rt_base.specs.Exchange.{Exchange}
@@ -27,8 +27,10 @@ use Rattle.task_local.specs.declared.standing.At.{At}
 use Rattle.task_local.specs.declared.standing.At.TheVariants as at
 use Rattle.core_book.specs.declared.posting.Posting.{Posting}
 use Rattle.task_machine.specs.Machine.{awaited_at, open_count}
-use Rattle.task_machine.specs.Course.{all_left, most_moves, posted_by_phase}
+use Rattle.task_machine.specs.Course.{moves_left, posted_by_phase}
 use Rattle.task_machine.specs.Legal.{IsLegal, final, phases_of}
+use Rattle.task_machine.specs.Laws.{is_blocking_call}
+use Rattle.task_machine.specs.Owed.{last_opened}
 
 -- the insides of a book
 pub record Shelf : Type 0 where
@@ -44,26 +46,91 @@ pub record Shelf : Type 0 where
   pub unreleased : ℕ
   pub waits : List ℕ
   pub posted : List ℕ
+  pub opened : List ReqNo
   pub entry_places : ℕ
   pub status_places : ℕ
   pub notice_places : ℕ
+  pub opened_places : ℕ
 
 -- the machine's state after the history of a book
 abbrev pub state_now : Shelf → State
 state_now shelf = final shelf.program shelf.entries
 
--- at most how many moves the tasks of a book have left
-abbrev pub left_of : Shelf → ℕ
-left_of shelf = all_left shelf.program.tasks.items shelf.phases
+-- what a number comes to over all tasks, that each task has by where it stands
+abbrev pub over_tasks : (TaskDef → Phase → ℕ) → List TaskDef → List Phase → ℕ
+over_tasks count [] phases = 0
+over_tasks count (def ∷ defs) [] = 0
+over_tasks count (def ∷ defs) (at ∷ phases) = count def at + over_tasks count defs phases
 
--- the tasks are those of the program, none has bound a request, each knows its place in its body,
+-- how many requests a task that stands there has still to post, and so at most how many notices come of it
+abbrev pub postings_left : TaskDef → Phase → ℕ
+postings_left def at = postings def.body.items - posted_by_phase def at
+
+-- how many requests tasks post
+abbrev pub most_postings : List TaskDef → ℕ
+most_postings defs = sum_by (λ (def : TaskDef). postings def.body.items) defs
+
+-- at most how many entries come of it: its moves, and the polls that take the notices of what it posts
+abbrev pub entries_left : TaskDef → Phase → ℕ
+entries_left def at = moves_left (length def.body.items) at + postings_left def at
+
+-- at most how many statuses an operation tells at its end: one for a posting, and one for each handle of a wait
+abbrev pub tells : Op → ℕ
+tells operation = by_parts 0 (λ posted. 1) (λ waited. length waited.handles) operation
+
+-- of these, what it tells where it is left
+abbrev pub tells_now : Op → ℕ
+tells_now operation = by_parts 0 (λ posted. 1) (λ waited. if waited.later then 0 else length waited.handles) operation
+
+-- and what it tells at the release of its task
+abbrev pub tells_late : Op → ℕ
+tells_late operation = by_parts 0 (λ posted. 0) (λ waited. if waited.later then length waited.handles else 0) operation
+
+-- at most how many statuses a task that stands there has still to tell
+abbrev pub to_tell : TaskDef → Phase → ℕ
+to_tell def phase.Waiting = sum_by tells_now def.body.items + sum_by tells_late def.body.items
+to_tell def (phase.At k) = sum_by tells_now (drop k def.body.items) + sum_by tells_late def.body.items
+to_tell def (phase.In k) = sum_by tells_now (drop k def.body.items) + sum_by tells_late def.body.items
+to_tell def phase.Ended = sum_by tells_late def.body.items
+to_tell def phase.Returned = sum_by tells_late def.body.items
+to_tell def phase.Released = 0
+
+-- a list of so many items has places for all that the tasks still add to it; and with that it is no longer than all that they add from the opening on
+pub record HasRoom (count : TaskDef → Phase → ℕ) (tasks : List TaskDef) (phases : List Phase) (items places : ℕ) : Type 0 where
+  pub few : items + over_tasks count tasks phases ≤ over_tasks count tasks (replicate (length tasks) phase.Waiting)
+  pub enough : items + over_tasks count tasks phases ≤ places
+
+-- at most how many requests the call of an operation opens
+abbrev pub opens : Option Op → ℕ
+opens operation = by_parts_of 0 (λ posted. 1) (λ waited. length waited.handles) operation
+
+-- a task that is in an operation is in one that blocks
+abbrev pub IsInBlocking : TaskDef → Phase → Type 0
+IsInBlocking def phase.Waiting = ⊤
+IsInBlocking def (phase.At k) = ⊤
+IsInBlocking def (phase.In k) = is_blocking_call (slice_get def.body.items k) ≡ true
+IsInBlocking def phase.Ended = ⊤
+IsInBlocking def phase.Returned = ⊤
+IsInBlocking def phase.Released = ⊤
+
+-- the tasks are those of the program, none has bound a request, each knows its place in its body, a task is only in operations that block,
 -- and what is posted is what the tasks have posted
 pub record IsTidy (program : Program) (state : State) : Type 0 where
   pub counted : length state.tasks ≡ length program.tasks.items
   pub cells : length state.memory ≡ memory_len program
   pub unbound : (t : ℕ) (task : Task) → slice_get state.tasks t ≡ Some task → (task.named ≡ []) × (task.bound ≡ [])
+  pub blocking : (t : ℕ) (def : TaskDef) (task : Task) → slice_get program.tasks.items t ≡ Some def → slice_get state.tasks t ≡ Some task
+      → IsInBlocking def task.phase
   pub posted : (t n : ℕ) (def : TaskDef) (task : Task) → slice_get program.tasks.items t ≡ Some def → slice_get state.tasks t ≡ Some task
       → is_posted state.exchange (request t n) ≡ true → n < posted_by_phase def task.phase
+
+-- each list has room for what the tasks have left: the entries for each move and each notice that stands or comes, and the requests that a move
+-- opens for those of each operation
+pub record HasRooms (shelf : Shelf) : Type 0 where
+  pub entries : HasRoom entries_left shelf.program.tasks.items shelf.phases (length shelf.entries + length shelf.notices) shelf.entry_places
+  pub statuses : HasRoom to_tell shelf.program.tasks.items shelf.phases (length shelf.statuses) shelf.status_places
+  pub notices : HasRoom postings_left shelf.program.tasks.items shelf.phases (length shelf.notices) shelf.notice_places
+  pub opened : (t k : ℕ) (def : TaskDef) → slice_get shelf.program.tasks.items t ≡ Some def → opens (slice_get def.body.items k) ≤ shelf.opened_places
 
 -- the insides are the state after the history, the graph and the engine are those of the program, and there is room for what the tasks have left
 pub record KeepsState (shelf : Shelf) : Type 0 where
@@ -73,17 +140,14 @@ pub record KeepsState (shelf : Shelf) : Type 0 where
   pub phases_are : shelf.phases ≡ phases_of (state_now shelf).tasks
   pub exchange_is : shelf.engine.exchange ≡ (state_now shelf).exchange
   pub notices_are : shelf.notices ≡ (state_now shelf).notices
-  pub gone_is : shelf.ready.gone.released ≡ (let_go (state_now shelf).tasks).released
+  pub opened_are : shelf.opened ≡ last_opened shelf.program shelf.entries
+  pub gone_is : shelf.ready.gone ≡ let_go (state_now shelf).tasks
   pub tidy : IsTidy shelf.program (state_now shelf)
   pub begun : (t : ℕ) (at : Phase) → slice_get shelf.phases t ≡ Some at → at ≢ phase.Waiting → slice_get shelf.ready.handed t ≡ Some true
   pub of_program : shelf.ready.program ≡ shelf.program
   pub whole : IsWhole shelf.ready
   pub engine_of : shelf.engine.program ≡ shelf.program
-  pub few_entries : length shelf.entries + left_of shelf ≤ most_moves shelf.program.tasks.items
-  pub few_statuses : length shelf.statuses + left_of shelf ≤ most_moves shelf.program.tasks.items
-  pub entry_room : length shelf.entries + left_of shelf ≤ shelf.entry_places
-  pub status_room : length shelf.statuses + left_of shelf ≤ shelf.status_places
-  pub notice_room : length shelf.notices + left_of shelf ≤ shelf.notice_places
+  pub rooms : HasRooms shelf
 
 -- the number is 0
 abbrev pub is_zero : ℕ → Bool
@@ -148,6 +212,14 @@ IsBlockedAt (at.In k) = ⊤
 IsBlockedAt at.Ended = ⊥
 IsBlockedAt at.Returned = ⊥
 IsBlockedAt at.Released = ⊥
+
+-- the operation is a posting
+abbrev pub is_posting_at : Option Op → Bool
+is_posting_at operation = by_parts_of false (λ posted. true) (λ waited. false) operation
+
+-- the operation waits for what it names, before it goes on
+abbrev pub IsWait : Option Op → Type 0
+IsWait operation = by_parts_of false (λ posted. false) (λ waited. not waited.later) operation ≡ true
 
 -- the operation is this posting
 pub record PostsAs (operation : Option Op) (posting : Posting) : Type 0 where

@@ -1,7 +1,6 @@
 -- What contracts see of a book, and what each of its moves does.
 use Rattle.std.specs.Prelude.{◌≡◌, ℕ, ◌+◌, ◌^◌, ◌<◌, List, [], ◌∷◌, ◌++◌, Bool, false, replicate, length, slice_get, Option, Some, None, option_map, unwrap_or, ⊤, true, if◌then◌else◌}
 use Rattle.rt_base.specs.declared.data.Op.{Op}
-use Rattle.rt_base.specs.declared.data.Op.TheVariants as op
 use Rattle.rt_base.specs.declared.data.Phase.{Phase}
 use Rattle.rt_base.specs.declared.data.Phase.TheVariants as phase
 use Rattle.rt_base.specs.declared.data.TaskDef.{TaskDef}
@@ -9,7 +8,7 @@ use Rattle.rt_base.specs.declared.data.Status.{Status}
 use Rattle.rt_base.specs.declared.data.Entry.{Entry}
 use Rattle.rt_base.specs.declared.data.Entry.TheVariants as entry
 use Rattle.rt_base.specs.declared.data.Program.{Program}
-use Rattle.rt_base.specs.Operations.{blocks}
+use Rattle.rt_base.specs.Operations.{by_parts_of}
 use Rattle.rt_base.specs.Precedes.{MayStart}
 use Rattle.rt_base.specs.State.{State, Task, let_go}
 use Rattle.task_local.specs.Regions.{loaded}
@@ -79,37 +78,27 @@ pub record MakesMove (old new : Ledger) (before after : Record) : Type 0 where
   pub stands : StandsFor old.program after (final old.program new.history)
   pub left : after ≡ record_after old.program (final old.program old.history) before
 
--- the operation posts a request
-abbrev pub IsPosting : Option Op → Type 0
-IsPosting None = ⊥
-IsPosting (Some (op.Compute kind dst left right value step)) = ⊥
-IsPosting (Some (op.Post how span peer tag comm status)) = ⊤
-IsPosting (Some (op.Await later handles status)) = ⊥
+-- the operation binds what it names and goes on (TAMPI, TAMPI_Iwait and TAMPI_Iwaitall)
+abbrev pub is_binding : Option Op → Bool
+is_binding operation = by_parts_of false (λ posted. false) (λ waited. waited.later) operation
 
--- the task is before a posting
-abbrev pub IsAtPosting : TaskDef → Phase → Type 0
-IsAtPosting def phase.Waiting = ⊥
-IsAtPosting def (phase.At k) = IsPosting (slice_get def.body.items k)
-IsAtPosting def (phase.In k) = ⊥
-IsAtPosting def phase.Ended = ⊥
-IsAtPosting def phase.Returned = ⊥
-IsAtPosting def phase.Released = ⊥
+-- the task is before an operation that binds
+abbrev pub is_at_binding : TaskDef → Phase → Bool
+is_at_binding def phase.Waiting = false
+is_at_binding def (phase.At k) = is_binding (slice_get def.body.items k)
+is_at_binding def (phase.In k) = false
+is_at_binding def phase.Ended = false
+is_at_binding def phase.Returned = false
+is_at_binding def phase.Released = false
 
--- the operation posts a request and waits for it
-abbrev pub IsBlocking : Option Op → Type 0
-IsBlocking None = ⊥
-IsBlocking (Some (op.Compute kind dst left right value step)) = ⊥
-IsBlocking (Some (op.Post how span peer tag comm status)) = blocks how ≡ true
-IsBlocking (Some (op.Await later handles status)) = ⊥
-
--- the task is in a posting that blocks
-abbrev pub IsInPosting : TaskDef → Phase → Type 0
-IsInPosting def phase.Waiting = ⊥
-IsInPosting def (phase.At k) = ⊥
-IsInPosting def (phase.In k) = IsBlocking (slice_get def.body.items k)
-IsInPosting def phase.Ended = ⊥
-IsInPosting def phase.Returned = ⊥
-IsInPosting def phase.Released = ⊥
+-- the task is in an operation
+abbrev pub IsInOperation : Phase → Type 0
+IsInOperation phase.Waiting = ⊥
+IsInOperation (phase.At k) = ⊥
+IsInOperation (phase.In k) = ⊤
+IsInOperation phase.Ended = ⊥
+IsInOperation phase.Returned = ⊥
+IsInOperation phase.Released = ⊥
 
 -- the entry is a call that leaves so many requests incomplete
 abbrev pub LeavesPending : Entry → ℕ → Type 0

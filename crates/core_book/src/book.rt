@@ -1,23 +1,28 @@
 //! The book: the machine's state after its history, and the moves that go on from it.
 
-ghost use Rattle.std.specs.Prelude.{◌≡◌, ◌≤◌, ◌<◌, ◌↔◌, true, false, ℕ, IsTrue, length, slice_get, slice_set, Some, IfOk, IfSome, IfNone};
+ghost use Rattle.std.specs.Prelude.{◌≡◌, ◌≤◌, true, false, ℕ, slice_get, slice_set, Some, IfOk, IfSome, IfNone};
 ghost use Rattle.rt_base.specs.declared.data.Phase.TheVariants as phase;
 ghost use Rattle.rt_base.specs.WellFormed.{WellFormed};
 ghost use Rattle.rt_base.specs.MayMove.{MayMove};
 ghost use Rattle.task_local.specs.StandsFor.{StandsFor};
-ghost use Rattle.task_machine.specs.Legal.{final, phases_of, IsLegal, IsQuiet, IsFinished};
-ghost use Rattle.task_local.specs.Standing.{def, packed_next};
+ghost use Rattle.task_machine.specs.Legal.{final, phases_of, IsLegal};
+ghost use Rattle.task_local.specs.Standing.{def, packed_next, IsAtCall};
 ghost use Rattle.task_machine.specs.Machine.{move};
-ghost use Rattle.core_book.specs.Ledger.{MakesMove, IsReady, IsAtPosting, IsInPosting, LeavesPending, new_ledger};
+ghost use Rattle.core_book.specs.Ledger.{MakesMove, IsReady, IsInOperation, LeavesPending, is_at_binding, new_ledger};
+
+mod calls;
+mod leaves;
+mod questions;
 
 use crate::counts::Counts;
+use crate::places::{blocked_place, call_place};
 use crate::posted::Posted;
-use crate::posting::{
-    blocked_place, call_place, pending, phase_after, place_after, post, posting_at, store_status,
-    tell, tell_status, waits_after,
+use crate::posting::posting_at;
+use crate::room::{
+    all_waiting, cell_count, count_of, longest_wait, most_moves, most_postings, most_told, note,
+    zeros,
 };
-use crate::room::{all_waiting, cell_count, count_of, most_moves, note, zeros};
-use crate::tasks::{is_waiting, phase_before, stop, task_of};
+use crate::tasks::{phase_before, stop, task_of};
 use match_engine::Engine;
 use region_deps::Deps;
 use rt_base::{Cells, Entry, History, Listed, Phase, Phases, Program, ReqNo, Status, TaskNo};
@@ -53,6 +58,8 @@ pub struct Book {
     waits: Counts,
     // How many requests each task has posted.
     posted: Posted,
+    // The requests that the last move opened.
+    opened: Vec<ReqNo>,
 }
 
 impl Model for Book {
@@ -83,9 +90,11 @@ impl Model for Book {
       unreleased = b.unreleased;
       waits = b.waits;
       posted = b.posted;
+      opened = b.opened.items;
       entry_places = vec_capacity b.entries;
       status_places = vec_capacity b.statuses;
       notice_places = vec_capacity b.notices;
+      opened_places = vec_capacity b.opened;
     }) };
 }
 
@@ -96,7 +105,9 @@ impl Book {
         requires workers { 1 ≤ workers }
         ensures { IfOk result (λ book. book ≡ new_ledger prog.now workers) }
     {
-        let moves = most_moves(prog.tasks.as_slice());
+        let tasks = prog.tasks.as_slice();
+        let moves = most_moves(tasks);
+        let postings = most_postings(tasks);
         Ok(Book {
             program: Snapshot::of(prog),
             workers,
@@ -104,12 +115,13 @@ impl Book {
             engine: Engine::build(alloc, prog)?,
             memory: zeros(alloc, cell_count(prog.lens.as_slice()) as usize)?,
             phases: all_waiting(alloc, prog.tasks.len())?,
-            notices: Vec::with_capacity(alloc, moves)?,
-            entries: Vec::with_capacity(alloc, moves)?,
-            statuses: Vec::with_capacity(alloc, moves)?,
+            notices: Vec::with_capacity(alloc, postings)?,
+            entries: Vec::with_capacity(alloc, moves + postings)?,
+            statuses: Vec::with_capacity(alloc, most_told(tasks))?,
             unreleased: prog.tasks.len(),
             waits: Counts::ones(alloc, prog.tasks.len())?,
             posted: Posted::none(alloc, prog.tasks.len())?,
+            opened: Vec::with_capacity(alloc, longest_wait(tasks))?,
         })
     }
 
@@ -139,92 +151,48 @@ impl Book {
         let memory = &self.memory;
         let task = rec.task();
         let def = task_of(prog, task);
+        self.opened.clear();
         rec.load(prog, memory);
         rec.go(prog, phase_before(def, 0));
         self.phases[task.0 as usize] = stop(def, 0);
         note(&mut self.entries, Entry::Start { task });
     }
 
-    /// The task calls the posting that is next, and goes into it where it blocks; answers how many of its requests are incomplete then.
-    /// Takes no memory. Its time grows with what waits in one mailbox, with the handles of the wait in which the other task is, and with the local operations that come next.
+    /// The task calls its next operation, a posting or a wait, and goes into it where it blocks; answers how many of its requests are incomplete
+    /// then. Takes no memory. Its time grows with what waits in one mailbox, or the handles of the wait, with the handles of the wait in which the
+    /// other task is, and with the local operations that come next.
     pub fn call(&mut self, prog: &Program, rec: &mut TaskRec, cells: Cells) -> u32
         requires well_formed { WellFormed prog.now }
         requires same { prog.now ≡ self.old.program }
         requires stands { StandsFor prog.now rec.old (final prog.now self.old.history) }
-        requires posting { IsAtPosting (def rec.old) rec.old.phase }
+        requires before { IsAtCall (def rec.old) rec.old.phase }
+        requires unbinding { is_at_binding (def rec.old) rec.old.phase ≡ false }
         requires packed { cells.items ≡ packed_next (def rec.old) rec.old.phase rec.old.copy }
         ensures moves { MakesMove self.old self.new rec.old rec.new }
         ensures pending { LeavesPending (move prog.now (final prog.now self.old.history) rec.old.task).entry result }
     {
-        let phases = &mut self.phases;
-        let task = rec.task();
-        let def = task_of(prog, task);
         let k = call_place(rec.at(prog));
-        let posting = posting_at(def, k);
-        let req = ReqNo {
-            task,
-            nth: self.posted.next(task),
-        };
-        let partner = post(&mut self.engine, prog, req, posting.how, cells);
-        tell(
-            &mut self.notices,
-            &mut self.waits,
-            &self.engine,
-            prog,
-            phases,
-            &self.posted,
-            partner,
-        );
-        self.posted.add(task);
-        phases[task.0 as usize] = phase_after(def, k, posting.how);
-        rec.go(prog, place_after(def, k, posting.how));
-        let pending = pending(&self.engine, req);
-        self.waits.set(task.0, waits_after(posting.how, pending));
-        note(
-            &mut self.entries,
-            Entry::Call {
-                task,
-                op: k,
-                pending,
-            },
-        );
-        pending
+        match posting_at(task_of(prog, rec.task()), k) {
+            Some(posting) => self.post(prog, rec, k, posting, cells),
+            None => self.wait(prog, rec, k),
+        }
     }
 
-    /// The task leaves the posting in which it waits: received cells and the status go into its copy. Takes no memory.
-    /// Its time grows with the cells received, and with the local operations that come next.
+    /// The task leaves the operation in which it waits: received cells and statuses go into its copy. Takes no memory.
+    /// Its time grows with the handles of a wait, with the cells received, and with the local operations that come next.
     pub fn leave(&mut self, prog: &Program, rec: &mut TaskRec)
         requires well_formed { WellFormed prog.now }
         requires same { prog.now ≡ self.old.program }
         requires stands { StandsFor prog.now rec.old (final prog.now self.old.history) }
-        requires posting { IsInPosting (def rec.old) rec.old.phase }
+        requires within { IsInOperation rec.old.phase }
         requires enabled { MayMove prog.now (final prog.now self.old.history) rec.old.task }
         ensures { MakesMove self.old self.new rec.old rec.new }
     {
-        let phases = &mut self.phases;
-        let task = rec.task();
-        let def = task_of(prog, task);
         let k = blocked_place(rec.at(prog));
-        let posting = posting_at(def, k);
-        let req = ReqNo {
-            task,
-            nth: self.posted.last(task),
-        };
-        rec.store(prog, posting.span, self.engine.cells(req));
-        let from = count_of(&self.statuses);
-        let count = tell_status(&mut self.statuses, &self.engine, prog, req, posting.how);
-        store_status(rec, prog, &self.engine, req, posting);
-        phases[task.0 as usize] = stop(def, k + 1);
-        rec.go(prog, phase_before(def, k + 1));
-        note(
-            &mut self.entries,
-            Entry::Leave {
-                task,
-                op: k,
-                from,
-                count,
-            },
-        );
+        match posting_at(task_of(prog, rec.task()), k) {
+            Some(posting) => self.leave_posting(prog, rec, k, posting),
+            None => self.leave_wait(prog, rec, k),
+        }
     }
 
     /// The task returns: its body has ended. Takes no memory.
@@ -237,13 +205,15 @@ impl Book {
     {
         let phases = &mut self.phases;
         let task = rec.task();
+        self.opened.clear();
         phases[task.0 as usize] = Phase::Returned;
         rec.go(prog, Phase::Returned);
         note(&mut self.entries, Entry::Return { task });
     }
 
     /// The task lets go of its accesses: its written cells are put back, and the tasks that waited for it may start.
-    /// Takes no memory. Its time grows with the task's accesses and cells, and with the links of its accesses, and of its group where it is the last of that.
+    /// Takes no memory. Its time grows with the task's accesses and cells, and with the links of its accesses, and of its group where it is the
+    /// last of that.
     pub fn release(&mut self, prog: &Program, rec: &mut TaskRec)
         requires well_formed { WellFormed prog.now }
         requires same { prog.now ≡ self.old.program }
@@ -254,6 +224,7 @@ impl Book {
     {
         let memory = &mut self.memory;
         let task = rec.task();
+        self.opened.clear();
         rec.save(prog, memory);
         rec.go(prog, Phase::Released);
         self.phases[task.0 as usize] = Phase::Released;
@@ -269,45 +240,6 @@ impl Book {
                 count: 0,
             },
         );
-    }
-
-    /// Whether the program has the task and it may make its next move. Takes no memory, and constant time.
-    pub fn can_move(&self, prog: &Program, task: TaskNo) -> bool
-        requires well_formed { WellFormed prog.now }
-        requires same { prog.now ≡ self.now.program }
-        ensures { IsTrue result ↔ MayMove prog.now (final prog.now self.now.history) task.0 }
-    {
-        if task.0 as usize >= self.phases.len() {
-            return false;
-        }
-        if is_waiting(self.phases[task.0 as usize]) {
-            self.deps.may_start(task)
-        } else {
-            self.waits.at(task.0) == 0
-        }
-    }
-
-    /// Whether no task may move. Takes no memory, and constant time.
-    pub fn quiet(&self, prog: &Program) -> bool
-        requires well_formed { WellFormed prog.now }
-        requires same { prog.now ≡ self.now.program }
-        ensures { IsTrue result ↔ IsQuiet prog.now (final prog.now self.now.history) }
-    {
-        self.waits.none_zero() && self.deps.none_startable()
-    }
-
-    /// Whether all tasks are released. Takes no memory, and constant time.
-    pub fn finished(&self) -> bool
-        ensures { IsTrue result ↔ IsFinished (final self.now.program self.now.history) }
-    {
-        self.unreleased == 0
-    }
-
-    /// The notices of completions in the state after the history. No one takes them. Takes constant time.
-    pub fn notices(&self) -> &[ReqNo]
-        ensures { result.now ≡ (final self.now.program self.now.history).notices }
-    {
-        &self.notices
     }
 
     /// The history, with the cells and the phases of the state after it. Takes no memory.
@@ -331,6 +263,7 @@ impl Book {
             unreleased: _,
             waits: _,
             posted: _,
+            opened: _,
         } = self;
         BookEnd {
             history: History {

@@ -1,11 +1,13 @@
-//! The machine that has a thread for each task, and its book: every move, and the history.
+//! The book of a program: the history so far, the state of the machine after it, and the moves that go on from it.
 #![tactic(auto)]
 
 mod book;
 mod counts;
+mod places;
 mod posted;
 mod posting;
 mod room;
 mod tasks;
+mod waits;
 
 pub use book::{Book, BookEnd};

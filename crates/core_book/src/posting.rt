@@ -1,6 +1,6 @@
 //! The postings of a body, and what they do to the engine, the notices and the statuses.
 
-ghost use Rattle.std.specs.Prelude.{◌≡◌, ◌≤◌, ◌<◌, ◌+◌, ◌-◌, ◌^◌, ◌++◌, [], ◌∷◌, true, false, not, ◌&&◌, length, map, slice_get, slice_set, slice_index_or, vec_capacity, Some, IsSome, IfSome, if◌then◌else◌, ℕ};
+ghost use Rattle.std.specs.Prelude.{◌≡◌, ◌≤◌, ◌<◌, ◌+◌, ◌-◌, ◌^◌, ◌++◌, [], ◌∷◌, true, false, not, ◌&&◌, length, map, slice_get, slice_set, slice_index_or, vec_capacity, Some, IsSome, IfNone, IfSome, if◌then◌else◌, ℕ};
 ghost use Rattle.std.specs.List.{list_any};
 ghost use Rattle.rt_base.specs.Matching.{same_request};
 ghost use Rattle.rt_base.specs.declared.data.Phase.TheVariants as phase;
@@ -14,8 +14,7 @@ ghost use Rattle.task_local.specs.Standing.{phase_before, def};
 ghost use Rattle.task_local.specs.Waits.{status_cells, put_statuses};
 ghost use Rattle.rt_base.specs.Spans.{span_len};
 ghost use Rattle.rt_base.specs.WellFormed.{WellFormed, IsDeclared};
-ghost use Rattle.core_book.specs.Ledger.{IsPosting};
-ghost use Rattle.core_book.specs.Kept.{IsCallAt, IsBlockedAt, IsNumbered, PostsAs, told_now, awaits_now, noticed_now, one_less_for};
+ghost use Rattle.core_book.specs.Kept.{IsNumbered, PostsAs, is_posting_at, told_now, awaits_now, noticed_now, one_less_for};
 
 use crate::counts::Counts;
 use crate::posted::Posted;
@@ -23,7 +22,7 @@ use crate::room::note;
 use crate::tasks::{phase_before, stop, task_of};
 use match_engine::Engine;
 use rt_base::{Cells, Handle, How, Op, Phase, Program, ReqNo, Span, Status, TaskDef, TaskNo};
-use task_local::{At, TaskRec};
+use task_local::TaskRec;
 
 /// A posting of a body: how it is posted, its span, and where its status goes.
 #[derive(Clone, Copy)]
@@ -33,57 +32,24 @@ pub(crate) struct Posting {
     pub(crate) status: Option<Span>,
 }
 
-// The number of the call that is next.
-pub(crate) fn call_place(at: At) -> u32
-    requires { IsCallAt at }
-    ensures { at ≡ At.Call result }
+// The posting that is operation k, where it is one.
+pub(crate) fn posting_at(def: &TaskDef, k: u32) -> Option<Posting>
+    ensures posting { IfSome result (λ posting. PostsAs (slice_get def.now.body.items k) posting) }
+    ensures other { IfNone result (is_posting_at (slice_get def.now.body.items k) ≡ false) }
 {
-    match at {
-        At::Local => unreachable!(),
-        At::Fresh => unreachable!(),
-        At::Call(k) => k,
-        At::In(_) => unreachable!(),
-        At::Ended => unreachable!(),
-        At::Returned => unreachable!(),
-        At::Released => unreachable!(),
-    }
-}
-
-// The number of the operation in which a task is blocked.
-pub(crate) fn blocked_place(at: At) -> u32
-    requires { IsBlockedAt at }
-    ensures { at ≡ At.In result }
-{
-    match at {
-        At::Local => unreachable!(),
-        At::Fresh => unreachable!(),
-        At::Call(_) => unreachable!(),
-        At::In(k) => k,
-        At::Ended => unreachable!(),
-        At::Returned => unreachable!(),
-        At::Released => unreachable!(),
-    }
-}
-
-// The posting that is operation k.
-pub(crate) fn posting_at(def: &TaskDef, k: u32) -> Posting
-    requires within { k < length def.now.body.items }
-    requires posts { IsPosting (slice_get def.now.body.items k) }
-    ensures { PostsAs (slice_get def.now.body.items k) result }
-{
-    match &def.body.as_slice()[k as usize] {
-        Op::Compute { .. } => unreachable!(),
+    match def.body.get(k as usize)? {
+        Op::Compute { .. } => None,
         Op::Post {
             how,
             span,
             status,
             ..
-        } => Posting {
+        } => Some(Posting {
             how: *how,
             span: *span,
             status: *status,
-        },
-        Op::Await { .. } => unreachable!(),
+        }),
+        Op::Await { .. } => None,
     }
 }
 

@@ -1,11 +1,14 @@
 //! How much room a book needs, and items that go into it.
 
-ghost use Rattle.std.specs.Prelude.{◌≡◌, ◌≤◌, ◌<◌, ◌+◌, ◌*◌, ◌^◌, ◌∷◌, [], ◌++◌, length, sum, sum_by, vec_len, vec_capacity, replicate, pos, IfOk};
+ghost use Rattle.std.specs.Prelude.{◌≡◌, ◌≤◌, ◌<◌, ◌^◌, ◌==◌, ◌∷◌, [], ◌++◌, ℕ, Some, drop, length, slice_get, sum, sum_by, vec_capacity, replicate, pos, IfOk, if◌then◌else◌};
 ghost use Rattle.rt_base.specs.declared.data.Phase.TheVariants as phase;
 ghost use Rattle.rt_base.specs.declared.data.TaskDef.{TaskDef};
+ghost use Rattle.rt_base.specs.Operations.{is_posting, postings};
+ghost use Rattle.rt_base.specs.WellFormed.{over_operations};
 ghost use Rattle.task_machine.specs.Course.{most_moves};
+ghost use Rattle.core_book.specs.Kept.{most_postings, opens, tells};
 
-use rt_base::{Phase, Status, TaskDef};
+use rt_base::{Op, Phase, Status, TaskDef};
 use std::alloc::{AllocError, Global};
 
 // At most how many moves these tasks make.
@@ -18,6 +21,107 @@ pub(crate) fn most_moves(tasks: &[TaskDef]) -> usize
         moves += 2 * task.body.len() + 3;
     }
     moves
+}
+
+// How many requests these tasks post.
+pub(crate) fn most_postings(tasks: &[TaskDef]) -> usize
+    requires few { most_postings tasks.now < 2 ^ 32 }
+    ensures { result ≡ most_postings tasks.now }
+{
+    let mut count = 0;
+    for task in tasks {
+        count += postings_of(task.body.as_slice());
+    }
+    count
+}
+
+// How many of these operations post.
+fn postings_of(body: &[Op]) -> usize
+    ensures { result ≡ postings body.now }
+{
+    let mut count = 0;
+    for operation in body {
+        if posts(operation) {
+            count += 1;
+        }
+    }
+    count
+}
+
+// Whether the operation posts a request.
+fn posts(operation: &Op) -> bool
+    ensures { result ≡ is_posting operation.now }
+{
+    match operation {
+        Op::Compute { .. } => false,
+        Op::Post { .. } => true,
+        Op::Await { .. } => false,
+    }
+}
+
+// At most how many statuses these tasks tell.
+pub(crate) fn most_told(tasks: &[TaskDef]) -> usize
+    requires few { over_operations tells tasks.now < 2 ^ 32 }
+    ensures { result ≡ over_operations tells tasks.now }
+{
+    let mut count = 0;
+    for task in tasks {
+        count += told_of(task.body.as_slice());
+    }
+    count
+}
+
+// At most how many statuses these operations tell.
+fn told_of(body: &[Op]) -> usize
+    requires few { sum_by tells body.now < 2 ^ 32 }
+    ensures { result ≡ sum_by tells body.now }
+{
+    let mut count = 0;
+    for operation in body {
+        count += told_by(operation);
+    }
+    count
+}
+
+// At most how many statuses the operation tells.
+fn told_by(operation: &Op) -> usize
+    ensures { result ≡ tells operation.now }
+{
+    match operation {
+        Op::Compute { .. } => 0,
+        Op::Post { .. } => 1,
+        Op::Await { handles, .. } => handles.len(),
+    }
+}
+
+// At most how many requests one call of these tasks opens.
+pub(crate) fn longest_wait(tasks: &[TaskDef]) -> usize
+    ensures { (t k : ℕ) (def : TaskDef) → slice_get tasks.now t ≡ Some def → opens (slice_get def.body.items k) ≤ result }
+{
+    let mut most = 0;
+    for task in tasks {
+        most = greater(most, longest_of(task.body.as_slice()));
+    }
+    most
+}
+
+// At most how many requests the call of one of these operations opens.
+fn longest_of(body: &[Op]) -> usize
+    ensures { (k : ℕ) → opens (slice_get body.now k) ≤ result }
+{
+    let mut most = 0;
+    for operation in body {
+        most = greater(most, told_by(operation));
+    }
+    most
+}
+
+// The greater of two numbers.
+fn greater(one: usize, other: usize) -> usize
+    ensures one { one ≤ result }
+    ensures other { other ≤ result }
+{
+    if one < other { other } else { one }
 }
 
 // How many cells arrays of these lengths have.
@@ -37,6 +141,17 @@ pub(crate) fn note<T: Drop>(list: &mut Vec<T>, item: T)
     match list.push(item) {
         Ok(()) => {}
         Err(_) => unreachable!(),
+    }
+}
+
+// Adds an item where this number isn't 0 and there is a place for it.
+pub(crate) fn note_some<T: Drop>(list: &mut Vec<T>, item: T, number: u32)
+    requires { length list.old.items < vec_capacity list.old }
+    ensures items { list.new.items ≡ list.old.items ++ (if number == 0 then [] else item ∷ []) }
+    ensures places { vec_capacity list.old ≤ vec_capacity list.new }
+{
+    if number > 0 {
+        note(list, item);
     }
 }
 
@@ -60,4 +175,12 @@ pub(crate) fn all_waiting(alloc: Global, tasks: usize) -> Result<Vec<Phase>, All
     ensures { IfOk result (λ made. made.items ≡ replicate tasks phase.Waiting) }
 {
     Ok(vec![in alloc; Phase::Waiting; tasks]?)
+}
+
+// The statuses from this place on.
+pub(crate) fn statuses_from(statuses: &[Status], from: u32) -> &[Status]
+    requires { from ≤ length statuses.now }
+    ensures { result.now ≡ drop from statuses.now }
+{
+    &statuses[from as usize..]
 }

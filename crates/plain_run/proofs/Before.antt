@@ -1,5 +1,5 @@
 -- How a record stands right before the move of its task.
-use Rattle.std.proofs.Common.{◌≡◌, ◌≢◌, ℕ, Bool, true, List, slice_get, Option, Some, None, refl, sym, ap, ◌∙◌, subst}
+use Rattle.std.proofs.Common.{◌≡◌, ◌≢◌, ℕ, Bool, true, false, List, slice_get, Option, Some, None, refl, sym, ap, ◌∙◌, subst}
 use Rattle.std.specs.Prelude.{All, ℤ}
 use Rattle.rt_base.specs.declared.data.Phase.{Phase}
 use Rattle.rt_base.specs.declared.data.Phase.TheVariants as phase
@@ -11,9 +11,9 @@ use Rattle.rt_base.specs.State.{State, Task}
 use Rattle.rt_base.specs.MayMove.{MayMove}
 use Rattle.task_local.specs.declared.standing.At.TheVariants as at
 use Rattle.task_local.specs.StandsFor.{Record, StandsFor, StandsAs}
-use Rattle.task_local.specs.Standing.{def, at_phase, at_operation, moved_on}
+use Rattle.task_local.specs.Standing.{def, at_phase, at_operation, moved_on, IsCall, IsAtCall}
 use Rattle.task_local.proofs.Stands.{stands_after_moved_on}
-use Rattle.core_book.specs.Ledger.{IsPosting, IsBlocking, IsAtPosting, IsInPosting}
+use Rattle.core_book.specs.Ledger.{IsInOperation, is_binding, is_at_binding}
 use Rattle.plain_run.specs.Plain.{IsPlain, IsPlainOperation}
 use Rattle.plain_run.specs.Turns.{is_started, IsPlaced, IsInLine}
 use Rattle.plain_run.proofs.Others.{IsAble, stop_able, stop_is_started, all_at}
@@ -24,16 +24,30 @@ pub record IsBefore (p : Program) (s : State) (held : Record) : Type 0 where
   pub stands : StandsFor p held s
   pub able : IsAble (def held) held.phase
   pub started : held.phase ≢ phase.Waiting
+  pub unbinding : is_at_binding (def held) held.phase ≡ false
 
--- local operations lead to a posting that blocks, or to the end
-moved_able : (d : TaskDef) (from : Phase) (held : Record) → held.phase ≡ from → IsPlaced d from → from ≢ phase.Released → All IsPlainOperation d.body.items
+-- a body that binds nothing does so nowhere
+binds_not : (ops : List Op) (k : ℕ) (o : Option Op) → slice_get ops k ≡ o → All IsPlainOperation ops → is_binding o ≡ false
+binds_not ops k None here plain = refl
+binds_not ops k (Some x) here plain = all_at IsPlainOperation ops k x plain here
+
+never_binds : (d : TaskDef) (from : Phase) → All IsPlainOperation d.body.items → is_at_binding d from ≡ false
+never_binds d phase.Waiting plain = refl
+never_binds d (phase.At k) plain = binds_not d.body.items k (slice_get d.body.items k) refl plain
+never_binds d (phase.In k) plain = refl
+never_binds d phase.Ended plain = refl
+never_binds d phase.Returned plain = refl
+never_binds d phase.Released plain = refl
+
+-- local operations lead to a call, or to the end
+moved_able : (d : TaskDef) (from : Phase) (held : Record) → held.phase ≡ from → IsPlaced d from → from ≢ phase.Released
     → IsAble d (moved_on d from held).phase
-moved_able d phase.Waiting held is placed unreleased plain = subst (IsAble d) (sym is) tt
-moved_able d (phase.At k) held is placed unreleased plain = stop_able d k plain
-moved_able d (phase.In k) held is placed unreleased plain = subst (IsAble d) (sym is) placed
-moved_able d phase.Ended held is placed unreleased plain = subst (IsAble d) (sym is) tt
-moved_able d phase.Returned held is placed unreleased plain = subst (IsAble d) (sym is) tt
-moved_able d phase.Released held is placed unreleased plain = absurd (unreleased refl)
+moved_able d phase.Waiting held is placed unreleased = subst (IsAble d) (sym is) tt
+moved_able d (phase.At k) held is placed unreleased = stop_able d k
+moved_able d (phase.In k) held is placed unreleased = subst (IsAble d) (sym is) placed
+moved_able d phase.Ended held is placed unreleased = subst (IsAble d) (sym is) tt
+moved_able d phase.Returned held is placed unreleased = subst (IsAble d) (sym is) tt
+moved_able d phase.Released held is placed unreleased = absurd (unreleased refl)
 
 moved_started : (d : TaskDef) (from : Phase) (held : Record) → held.phase ≡ from → from ≢ phase.Waiting → is_started (moved_on d from held).phase ≡ true
 moved_started d phase.Waiting held is started = absurd (started refl)
@@ -70,27 +84,23 @@ is_before p s handed t held mid plain line started may moved =
     subst (IsBefore p s) (sym moved) (record {
       stands = stands_after_moved_on p held s line.stands;
       able = subst (λ (d : TaskDef). IsAble d after.phase) (sym (moved_def (def held) held.phase held))
-          (moved_able (def held) held.phase held refl line.placed unreleased body);
+          (moved_able (def held) held.phase held refl line.placed unreleased);
       started = λ waits. absurd (cc (moved_started (def held) held.phase held refl started, ap is_started waits));
+      unbinding = subst (λ (d : TaskDef). is_at_binding d after.phase ≡ false) (sym (moved_def (def held) held.phase held))
+          (never_binds (def held) after.phase body);
     })
 
--- how the task stands before a posting that blocks
-blocking_call : (k : ℕ) (o : Option Op) → IsBlocking o → at_operation k o ≡ at.Call k
-blocking_call k None blocking = absurd blocking
-blocking_call k (Some (op.Compute kind dst left right value step)) blocking = absurd blocking
-blocking_call k (Some (op.Post how span peer tag comm status)) blocking = refl
-blocking_call k (Some (op.Await later handles status)) blocking = absurd blocking
-
-posting_of_blocking : (o : Option Op) → IsBlocking o → IsPosting o
-posting_of_blocking None blocking = absurd blocking
-posting_of_blocking (Some (op.Compute kind dst left right value step)) blocking = absurd blocking
-posting_of_blocking (Some (op.Post how span peer tag comm status)) blocking = tt
-posting_of_blocking (Some (op.Await later handles status)) blocking = absurd blocking
+-- how the task stands before a call
+before_call : (k : ℕ) (o : Option Op) → IsCall o → at_operation k o ≡ at.Call k
+before_call k None call = absurd call
+before_call k (Some (op.Compute kind dst left right value step)) call = absurd (cc call)
+before_call k (Some (op.Post how span peer tag comm status)) call = refl
+before_call k (Some (op.Await later handles status)) call = refl
 
 -- no task is before a local operation
 pub not_local : (d : TaskDef) (from : Phase) → IsAble d from → at_phase d from ≢ at.Local
 not_local d phase.Waiting able = λ e. cc
-not_local d (phase.At k) able = λ e. absurd (cc (e, blocking_call k (slice_get d.body.items k) able))
+not_local d (phase.At k) able = λ e. absurd (cc (e, before_call k (slice_get d.body.items k) able))
 not_local d (phase.In k) able = λ e. cc
 not_local d phase.Ended able = λ e. cc
 not_local d phase.Returned able = λ e. cc
@@ -98,32 +108,32 @@ not_local d phase.Released able = λ e. cc
 
 pub not_fresh : (d : TaskDef) (from : Phase) → IsAble d from → from ≢ phase.Waiting → at_phase d from ≢ at.Fresh
 not_fresh d phase.Waiting able started = λ e. started refl
-not_fresh d (phase.At k) able started = λ e. absurd (cc (e, blocking_call k (slice_get d.body.items k) able))
+not_fresh d (phase.At k) able started = λ e. absurd (cc (e, before_call k (slice_get d.body.items k) able))
 not_fresh d (phase.In k) able started = λ e. cc
 not_fresh d phase.Ended able started = λ e. cc
 not_fresh d phase.Returned able started = λ e. cc
 not_fresh d phase.Released able started = λ e. cc
 
 -- what the standing says of the phase
-pub at_posting : (d : TaskDef) (from : Phase) (k : ℕ) → IsAble d from → at_phase d from ≡ at.Call k → IsAtPosting d from
-at_posting d phase.Waiting k able is = absurd (cc)
-at_posting d (phase.At j) k able is = posting_of_blocking (slice_get d.body.items j) able
-at_posting d (phase.In j) k able is = absurd (cc)
-at_posting d phase.Ended k able is = absurd (cc)
-at_posting d phase.Returned k able is = absurd (cc)
-at_posting d phase.Released k able is = absurd (cc)
+pub at_call : (d : TaskDef) (from : Phase) (k : ℕ) → IsAble d from → at_phase d from ≡ at.Call k → IsAtCall d from
+at_call d phase.Waiting k able is = absurd (cc)
+at_call d (phase.At j) k able is = able
+at_call d (phase.In j) k able is = absurd (cc)
+at_call d phase.Ended k able is = absurd (cc)
+at_call d phase.Returned k able is = absurd (cc)
+at_call d phase.Released k able is = absurd (cc)
 
-pub in_posting : (d : TaskDef) (from : Phase) (k : ℕ) → IsAble d from → at_phase d from ≡ at.In k → IsInPosting d from
-in_posting d phase.Waiting k able is = absurd (cc)
-in_posting d (phase.At j) k able is = absurd (cc (is, blocking_call j (slice_get d.body.items j) able))
-in_posting d (phase.In j) k able is = able
-in_posting d phase.Ended k able is = absurd (cc)
-in_posting d phase.Returned k able is = absurd (cc)
-in_posting d phase.Released k able is = absurd (cc)
+pub in_operation : (d : TaskDef) (from : Phase) (k : ℕ) → IsAble d from → at_phase d from ≡ at.In k → IsInOperation from
+in_operation d phase.Waiting k able is = absurd (cc)
+in_operation d (phase.At j) k able is = absurd (cc (is, before_call j (slice_get d.body.items j) able))
+in_operation d (phase.In j) k able is = tt
+in_operation d phase.Ended k able is = absurd (cc)
+in_operation d phase.Returned k able is = absurd (cc)
+in_operation d phase.Released k able is = absurd (cc)
 
 pub has_ended : (d : TaskDef) (from : Phase) → IsAble d from → at_phase d from ≡ at.Ended → from ≡ phase.Ended
 has_ended d phase.Waiting able is = absurd (cc)
-has_ended d (phase.At j) able is = absurd (cc (is, blocking_call j (slice_get d.body.items j) able))
+has_ended d (phase.At j) able is = absurd (cc (is, before_call j (slice_get d.body.items j) able))
 has_ended d (phase.In j) able is = absurd (cc)
 has_ended d phase.Ended able is = refl
 has_ended d phase.Returned able is = absurd (cc)

@@ -1,6 +1,6 @@
 -- The records of all tasks stand for them before and after each move.
 use Rattle.std.proofs.Common.{◌≡◌, ◌≢◌, ℕ, zero, suc, ◌+◌, ◌<◌, ◌≤◌, Bool, true, false, ◌⊎◌, List, [], ◌∷◌, ◌++◌, length, take, drop, slice_get, slice_set, replicate, Some, refl, sym, ap, ◌∙◌, subst, inl, inr, arith}
-use Rattle.std.specs.Prelude.{All, ℤ, option_map}
+use Rattle.std.specs.Prelude.{ℤ, option_map}
 use Rattle.std.proofs.Math.ListN.{length-set}
 use Rattle.std.proofs.Math.Seq.{take-append_seam}
 use Rattle.std.proofs.lemmas.Option.{slice_get_within}
@@ -16,7 +16,6 @@ use Rattle.task_local.specs.Standing.{def}
 use Rattle.task_machine.specs.Machine.{move}
 use Rattle.task_machine.specs.Legal.{final, phases_of, IsQuiet}
 use Rattle.core_book.specs.Ledger.{Ledger, MakesMove, new_ledger}
-use Rattle.plain_run.specs.Plain.{IsPlain, IsPlainOperation}
 use Rattle.task_machine.specs.Course.{all_left}
 use Rattle.plain_run.specs.Turns.{is_started, IsPlaced, IsInLine, AreInLine, IsFresh, AreFresh, left, GoesOn, EndsTurn, IsRunning}
 use Rattle.task_machine.proofs.Lists.{slice_get-set_same, slice_get-set_other, slice_get-map}
@@ -24,7 +23,7 @@ use Rattle.task_machine.proofs.Items.{same_some, either_place, at_replicate}
 use Rattle.task_machine.proofs.Moves.{all_left-set}
 use Rattle.core_book.proofs.After.{phases_after}
 use Rattle.core_book.proofs.Held.{def_is}
-use Rattle.plain_run.proofs.Others.{IsAble, OnlyMoves, move_others, stop_able, all_at}
+use Rattle.plain_run.proofs.Others.{IsAble, OnlyMoves, move_others, stop_able}
 
 -- an item after one was written
 item_after : {X : Type 0} (xs : List X) (t u : ℕ) (x y : X) → t < length xs → slice_get (slice_set xs t x) u ≡ Some y
@@ -46,13 +45,13 @@ not_released p s t task may here released =
 
 -- a task for which a record stands may be moved on where it may move
 able_as : (d : TaskDef) (at : Phase) (copy : List ℤ) (task : Task) → StandsAs d at copy task → IsPlaced d at → task.phase ≢ phase.Released
-    → All IsPlainOperation d.body.items → IsAble d task.phase
-able_as d phase.Waiting copy task stands placed held plain = subst (IsAble d) (sym stands) tt
-able_as d (phase.At k) copy task stands placed held plain = subst (IsAble d) stands.0 (stop_able d k plain)
-able_as d (phase.In k) copy task stands placed held plain = subst (IsAble d) (sym stands.0) placed
-able_as d phase.Ended copy task stands placed held plain = subst (IsAble d) (sym stands.0) tt
-able_as d phase.Returned copy task stands placed held plain = subst (IsAble d) (sym stands.0) tt
-able_as d phase.Released copy task stands placed held plain = absurd (held stands.0)
+    → IsAble d task.phase
+able_as d phase.Waiting copy task stands placed held = subst (IsAble d) (sym stands) tt
+able_as d (phase.At k) copy task stands placed held = subst (IsAble d) stands.0 (stop_able d k)
+able_as d (phase.In k) copy task stands placed held = subst (IsAble d) (sym stands.0) placed
+able_as d phase.Ended copy task stands placed held = subst (IsAble d) (sym stands.0) tt
+able_as d phase.Returned copy task stands placed held = subst (IsAble d) (sym stands.0) tt
+able_as d phase.Released copy task stands placed held = absurd (held stands.0)
 
 -- what is known of a task is known of its record
 started_as : (d : TaskDef) (at : Phase) (copy : List ℤ) (task : Task) → StandsAs d at copy task → is_started task.phase ≡ true → is_started at ≡ true
@@ -72,16 +71,15 @@ placed_as d phase.Returned copy task stands placed = tt
 placed_as d phase.Released copy task stands placed = tt
 
 -- the moves of a task whose record is in line
-line_moves : (p : Program) (s : State) (handed : List Bool) (t : ℕ) (held : Record) → IsPlain p → MayMove p s t → (a : IsInLine p s handed t held)
+line_moves : (p : Program) (s : State) (handed : List Bool) (t : ℕ) (held : Record) → MayMove p s t → (a : IsInLine p s handed t held)
     → OnlyMoves p s t a.stands.def a.stands.task (move p s t).state (move p s t).entry
-line_moves p s handed t held plain may a =
+line_moves p s handed t held may a =
     let d = a.stands.def in
     let is_task : slice_get s.tasks t ≡ Some a.stands.task = ap (slice_get s.tasks) (sym a.mine) ∙ a.stands.is_task in
     move_others p s t d a.stands.task (ap (slice_get p.tasks.items) (sym a.mine) ∙ a.stands.is_def) is_task
     (able_as d held.phase held.copy a.stands.task a.stands.stands
     (subst (λ (x : TaskDef). IsPlaced x held.phase) (own_line_def p held s a.stands) a.placed)
-    (not_released p s t a.stands.task may is_task)
-    (all_at (λ (x : TaskDef). All IsPlainOperation x.body.items) p.tasks.items held.task d plain a.stands.is_def))
+    (not_released p s t a.stands.task may is_task))
 
 -- the record of the task that moved
 mover_in_line : (p : Program) (s new : State) (handed : List Bool) (t : ℕ) (d : TaskDef) (was : Task) (e : Entry) (after : Record)
@@ -136,14 +134,14 @@ record Onward (p : Program) (s new : State) (marks : List Bool) (recs : List Rec
   each : (u : ℕ) (held : Record) → slice_get recs u ≡ Some held → IsInLine p new marks u held
   fewer : all_left p.tasks.items (phases_of new.tasks) + 1 ≤ all_left p.tasks.items (phases_of s.tasks)
 
-onward : (p : Program) (s new : State) (old marks : List Bool) (recs : List Record) (t : ℕ) (before after : Record) → IsPlain p → MayMove p s t
+onward : (p : Program) (s new : State) (old marks : List Bool) (recs : List Record) (t : ℕ) (before after : Record) → MayMove p s t
     → length recs ≡ length p.tasks.items → ((u : ℕ) (held : Record) → slice_get recs u ≡ Some held → IsInLine p s old u held)
     → ((u : ℕ) → u ≢ t → slice_get marks u ≡ slice_get old u) → slice_get marks t ≡ Some true → slice_get recs t ≡ Some before
     → (move p s t).state ≡ new → after.task ≡ t → StandsFor p after new → Onward p s new marks (slice_set recs t after)
-onward p s new old marks recs t before after plain may counted each others given here moved mine stands =
+onward p s new old marks recs t before after may counted each others given here moved mine stands =
     let a = each t before here in
     let moves : OnlyMoves p s t a.stands.def a.stands.task new (move p s t).entry =
-    subst (λ (x : State). OnlyMoves p s t a.stands.def a.stands.task x (move p s t).entry) moved (line_moves p s old t before plain may a) in
+    subst (λ (x : State). OnlyMoves p s t a.stands.def a.stands.task x (move p s t).entry) moved (line_moves p s old t before may a) in
     let is_def : slice_get p.tasks.items t ≡ Some a.stands.def = ap (slice_get p.tasks.items) (sym a.mine) ∙ a.stands.is_def in
     let is_task : slice_get s.tasks t ≡ Some a.stands.task = ap (slice_get s.tasks) (sym a.mine) ∙ a.stands.is_task in
     record {
@@ -160,16 +158,16 @@ onward p s new old marks recs t before after plain may counted each others given
 
 -- a turn: the records are in line after a move of one of them
 pub goes_on : (old new : Ledger) (marks : List Bool) (recs : List Record) (t : ℕ) (before mid after : Record) → mid.task ≡ before.task
-    → AreInLine old recs → IsPlain old.program → ((u : ℕ) → u ≢ t → slice_get marks u ≡ slice_get old.handed u) → slice_get marks t ≡ Some true
+    → AreInLine old recs → ((u : ℕ) → u ≢ t → slice_get marks u ≡ slice_get old.handed u) → slice_get marks t ≡ Some true
     → slice_get recs t ≡ Some before → MayMove old.program (final old.program old.history) t → MakesMove (record old { handed = marks }) new mid after
     → GoesOn old new (slice_set recs t after)
-goes_on old new marks recs t before mid after same_task line plain others given here may made =
+goes_on old new marks recs t before mid after same_task line others given here may made =
     let p = old.program in
     let s = final p old.history in
     let mine : before.task ≡ t = (line.each t before here).mine in
     let moved : (move p s t).state ≡ final p new.history =
     ap (λ (v : ℕ). (move p s v).state) (sym (same_task ∙ mine)) ∙ sym made.state in
-    let now = onward p s (final p new.history) old.handed marks recs t before after plain may line.counted line.each others given here moved (made.task
+    let now = onward p s (final p new.history) old.handed marks recs t before after may line.counted line.each others given here moved (made.task
     ∙ same_task ∙ mine) made.stands in
     record {
       program = made.program;

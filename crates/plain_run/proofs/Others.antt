@@ -1,34 +1,34 @@
 -- A move of a task changes no other task, and leaves fewer moves.
-use Rattle.std.proofs.Common.{◌≡◌, ℕ, zero, suc, ◌+◌, ◌-◌, ◌*◌, ◌<◌, ◌≤◌, Bool, true, false, List, [], ◌∷◌, length, drop, slice_get, slice_set, Option, Some, None, refl, sym, ap, ◌∙◌, subst, drop-drop, arith}
+use Rattle.std.proofs.Common.{◌≡◌, ℕ, zero, suc, ◌+◌, ◌-◌, ◌*◌, ◌<◌, ◌≤◌, Bool, true, false, List, [], ◌∷◌, ◌++◌, length, drop, slice_get, slice_set, Option, Some, None, refl, sym, ap, ◌∙◌, subst, drop-drop, arith}
 use Rattle.std.specs.Prelude.{All, ⊤}
 use Rattle.std.proofs.lemmas.List.Elements.{All-get_or}
 use Rattle.std.proofs.lemmas.Option.{slice_get_within, get_or_from_slice_get}
 use Rattle.rt_base.specs.declared.data.Phase.{Phase}
 use Rattle.rt_base.specs.declared.data.Phase.TheVariants as phase
+use Rattle.rt_base.specs.declared.data.Handle.{Handle}
 use Rattle.rt_base.specs.declared.data.Op.{Op}
 use Rattle.rt_base.specs.declared.data.Op.TheVariants as op
 use Rattle.rt_base.specs.declared.data.Entry.{Entry}
 use Rattle.rt_base.specs.declared.data.TaskDef.{TaskDef}
 use Rattle.rt_base.specs.declared.data.Program.{Program}
-use Rattle.rt_base.specs.Operations.{blocks}
+use Rattle.rt_base.specs.Operations.{blocks, named_requests}
 use Rattle.rt_base.specs.State.{State, Task}
 use Rattle.task_local.specs.Regions.{loaded}
 use Rattle.task_local.specs.Local.{advanced, stop_at, stop}
 use Rattle.task_local.specs.Waits.{taken, taken_at_release}
-use Rattle.task_machine.specs.Machine.{Moved, move, move_at, call_move, post_move}
+use Rattle.task_local.specs.Standing.{IsCall}
+use Rattle.task_machine.specs.Machine.{Moved, move, move_at, call_move, post_move, await_move, open_ones}
 use Rattle.task_machine.specs.Legal.{caller}
-use Rattle.core_book.specs.Ledger.{IsBlocking}
-use Rattle.plain_run.specs.Plain.{IsPlainOperation}
 use Rattle.task_machine.specs.Course.{moves_left}
 use Rattle.plain_run.specs.Turns.{is_started, IsPlaced}
 use Rattle.task_machine.proofs.Rows.{move-row}
 use Rattle.core_book.proofs.Changes.{fewer_at_start, fewer_after_leave, left_by_stop}
 
--- a task that stands there may be moved on: before or in a posting that blocks, or before its start, its return or its release
+-- a task that stands there may be moved on: before a call or in an operation, or before its start, its return or its release
 abbrev pub IsAble : TaskDef → Phase → Type 0
 IsAble def phase.Waiting = ⊤
-IsAble def (phase.At k) = IsBlocking (slice_get def.body.items k)
-IsAble def (phase.In k) = IsBlocking (slice_get def.body.items k)
+IsAble def (phase.At k) = IsCall (slice_get def.body.items k)
+IsAble def (phase.In k) = k < length def.body.items
 IsAble def phase.Ended = ⊤
 IsAble def phase.Returned = ⊤
 IsAble def phase.Released = ⊥
@@ -63,35 +63,79 @@ stop_is_placed : (def : TaskDef) (k : ℕ) → IsPlaced def (stop def k)
 unfolding stop
 stop_is_placed def k = stop_at_placed def k (drop k def.body.items)
 
--- an operation that blocks is one of the body
-blocking_within : (def : TaskDef) (k : ℕ) (o : Option Op) → slice_get def.body.items k ≡ o → IsBlocking o → k < length def.body.items
-blocking_within def k None here blocking = absurd blocking
-blocking_within def k (Some x) here blocking = slice_get_within def.body.items k x here
+-- a call is an operation of the body
+call_within : (def : TaskDef) (k : ℕ) (o : Option Op) → slice_get def.body.items k ≡ o → IsCall o → k < length def.body.items
+call_within def k None here call = absurd call
+call_within def k (Some x) here call = slice_get_within def.body.items k x here
 
--- the row of a posting that blocks
-post_row : (p : Program) (s : State) (t : ℕ) (def : TaskDef) (was : Task) (k : ℕ) (blocking : Bool) → was.phase ≡ phase.At k → blocking ≡ true
-    → IsBlocking (slice_get def.body.items k)
+fewer_past : (n k left : ℕ) → k < n → left ≤ 2 * (n - (k + 1)) + 2 → left + 1 ≤ 2 * (n - k) + 2
+fewer_past n k left within few = omega arith
+
+-- a call that blocks leaves a move fewer
+fewer_in : (def : TaskDef) (was : Task) (k : ℕ) → was.phase ≡ phase.At k
+    → moves_left (length def.body.items) (phase.In k) + 1 ≤ moves_left (length def.body.items) was.phase
+fewer_in def was k at = rw at (omega arith)
+
+-- and so does one that goes on
+fewer_on : (def : TaskDef) (was : Task) (k : ℕ) → was.phase ≡ phase.At k → k < length def.body.items
+    → moves_left (length def.body.items) (stop def (k + 1)) + 1 ≤ moves_left (length def.body.items) was.phase
+fewer_on def was k at within = rw at (fewer_past (length def.body.items) k _ within (left_by_stop def (k + 1) (omega arith)))
+
+-- the row of a posting
+post_row : (p : Program) (s : State) (t : ℕ) (def : TaskDef) (was : Task) (k : ℕ) (blocking : Bool) → was.phase ≡ phase.At k → k < length def.body.items
     → OnlyMoves p s t def was (post_move p s t def was k blocking).state (post_move p s t def was k blocking).entry
-post_row p s t def was k false at blocking placed = absurd (cc)
-post_row p s t def was k true at blocking placed =
-    let before : moves_left (length def.body.items) was.phase ≡ 2 * (length def.body.items - k) + 2 = ap (moves_left (length def.body.items)) at in
-    record {
-      now = record was { phase = phase.In k };
-      tasks = refl;
-      who = refl;
-      started = refl;
-      placed = placed;
-      fewer = omega arith;
-    }
+post_row p s t def was k false at within = record {
+  now = record was { phase = stop def (k + 1); copy = advanced def (k + 1) was.copy };
+  tasks = refl;
+  who = refl;
+  started = stop_is_started def (k + 1);
+  placed = stop_is_placed def (k + 1);
+  fewer = fewer_on def was k at within;
+}
+post_row p s t def was k true at within = record {
+  now = record was { phase = phase.In k };
+  tasks = refl;
+  who = refl;
+  started = refl;
+  placed = within;
+  fewer = fewer_in def was k at;
+}
+
+-- the row of a wait
+await_row : (p : Program) (s : State) (t : ℕ) (def : TaskDef) (was : Task) (k : ℕ) (handles : List Handle) (later : Bool) → was.phase ≡ phase.At k
+    → k < length def.body.items
+    → OnlyMoves p s t def was (await_move p s t def was k handles later).state (await_move p s t def was k handles later).entry
+await_row p s t def was k handles false at within = record {
+  now = record was { phase = phase.In k };
+  tasks = refl;
+  who = refl;
+  started = refl;
+  placed = within;
+  fewer = fewer_in def was k at;
+}
+await_row p s t def was k handles true at within = record {
+  now = record was {
+    phase = stop def (k + 1);
+    copy = advanced def (k + 1) was.copy;
+    named = was.named ++ k ∷ [];
+    bound = was.bound ++ open_ones p s.exchange (named_requests t handles);
+  };
+  tasks = refl;
+  who = refl;
+  started = stop_is_started def (k + 1);
+  placed = stop_is_placed def (k + 1);
+  fewer = fewer_on def was k at within;
+}
 
 call_row : (p : Program) (s : State) (t : ℕ) (def : TaskDef) (was : Task) (k : ℕ) (o : Option Op) → slice_get def.body.items k ≡ o → was.phase ≡ phase.At k
-    → IsBlocking o
+    → IsCall o
     → OnlyMoves p s t def was (call_move p s t def was k o).state (call_move p s t def was k o).entry
 call_row p s t def was k None here at able = absurd able
-call_row p s t def was k (Some (op.Compute kind dst left right value step)) here at able = absurd able
-call_row p s t def was k (Some (op.Post how span peer tag comm status)) here at able = post_row p s t def was k (blocks how) at able
-    (subst IsBlocking (sym here) able)
-call_row p s t def was k (Some (op.Await later handles status)) here at able = absurd able
+call_row p s t def was k (Some (op.Compute kind dst left right value step)) here at able = absurd (cc able)
+call_row p s t def was k (Some (op.Post how span peer tag comm status)) here at able = post_row p s t def was k (blocks how) at
+    (slice_get_within def.body.items k (op.Post how span peer tag comm status) here)
+call_row p s t def was k (Some (op.Await later handles status)) here at able = await_row p s t def was k handles.items later at
+    (slice_get_within def.body.items k (op.Await later handles status) here)
 
 -- each row of the machine
 row : (p : Program) (s : State) (t : ℕ) (def : TaskDef) (was : Task) (at : Phase) → was.phase ≡ at → IsAble def at
@@ -106,14 +150,13 @@ row p s t def was phase.Waiting waits able = record {
 }
 row p s t def was (phase.At k) at able = call_row p s t def was k (slice_get def.body.items k) refl at able
 row p s t def was (phase.In k) in_k able =
-    let within = blocking_within def k (slice_get def.body.items k) refl able in
     record {
       now = record was { phase = stop def (k + 1); copy = advanced def (k + 1) (taken p s.exchange t def k was.copy) };
       tasks = refl;
       who = refl;
       started = stop_is_started def (k + 1);
       placed = stop_is_placed def (k + 1);
-      fewer = rw in_k (fewer_after_leave (length def.body.items) k _ within (left_by_stop def (k + 1) (omega arith)));
+      fewer = rw in_k (fewer_after_leave (length def.body.items) k _ able (left_by_stop def (k + 1) (omega arith)));
     }
 row p s t def was phase.Ended ended able = record {
   now = record was { phase = phase.Returned };
@@ -155,17 +198,16 @@ rest_after k ops rest x here = sym (drop-drop 1 k ops) ∙ ap (λ (xs : List Op)
 pub all_at : {X : Type 0} (P : X → Type 0) (xs : List X) (i : ℕ) (x : X) → All P xs → slice_get xs i ≡ Some x → P x
 all_at P xs i x all here = subst P (get_or_from_slice_get xs i x x here) (All-get_or P xs i x (slice_get_within xs i x here) all)
 
--- a plain body stops at a posting that blocks, or at its end
-able_at : (def : TaskDef) (k : ℕ) (ops : List Op) → drop k def.body.items ≡ ops → All IsPlainOperation def.body.items → IsAble def (stop_at k ops)
-able_at def k [] here plain = tt
-able_at def k (op.Compute kind dst left right value step ∷ ops) here plain = able_at def (k + 1) ops
-    (rest_after k def.body.items ops (op.Compute kind dst left right value step) here) plain
-able_at def k (op.Post how span peer tag comm status ∷ ops) here plain =
-    let first = at_drop def.body.items k (op.Post how span peer tag comm status) ops here in
-    subst IsBlocking (sym first) (all_at IsPlainOperation def.body.items k (op.Post how span peer tag comm status) plain first)
-able_at def k (op.Await later handles status ∷ ops) here plain =
-    absurd (all_at IsPlainOperation def.body.items k (op.Await later handles status) plain (at_drop def.body.items k (op.Await later handles status) ops here))
+-- a body stops at a call, or at its end
+able_at : (def : TaskDef) (k : ℕ) (ops : List Op) → drop k def.body.items ≡ ops → IsAble def (stop_at k ops)
+able_at def k [] here = tt
+able_at def k (op.Compute kind dst left right value step ∷ ops) here = able_at def (k + 1) ops
+    (rest_after k def.body.items ops (op.Compute kind dst left right value step) here)
+able_at def k (op.Post how span peer tag comm status ∷ ops) here =
+    subst IsCall (sym (at_drop def.body.items k (op.Post how span peer tag comm status) ops here)) refl
+able_at def k (op.Await later handles status ∷ ops) here =
+    subst IsCall (sym (at_drop def.body.items k (op.Await later handles status) ops here)) refl
 
-pub stop_able : (def : TaskDef) (k : ℕ) → All IsPlainOperation def.body.items → IsAble def (stop def k)
+pub stop_able : (def : TaskDef) (k : ℕ) → IsAble def (stop def k)
 unfolding stop
-stop_able def k plain = able_at def k (drop k def.body.items) refl plain
+stop_able def k = able_at def k (drop k def.body.items) refl

@@ -14,7 +14,6 @@ use Rattle.task_local.specs.StandsFor.{Record, StandsAs}
 use Rattle.task_local.specs.Standing.{def, moved_on}
 use Rattle.task_machine.specs.Legal.{final, IsQuiet}
 use Rattle.core_book.specs.Ledger.{Ledger, MakesMove, IsReady}
-use Rattle.plain_run.specs.Plain.{IsPlain}
 use Rattle.plain_run.specs.Turns.{is_started, IsInLine, AreInLine, GoesOn, told_tasks}
 use Rattle.task_machine.proofs.Lists.{slice_get-set_same, slice_get-set_other}
 use Rattle.plain_run.proofs.Lines.{goes_on}
@@ -93,15 +92,15 @@ moved_on_task d phase.Returned held = refl
 moved_on_task d phase.Released held = refl
 
 -- the turn of a task that was started
-pub goes_on_started : (p : Program) (old new : Ledger) (recs : List Record) (t : ℕ) (held after : Record) → p ≡ old.program → IsPlain p → AreInLine old recs
+pub goes_on_started : (p : Program) (old new : Ledger) (recs : List Record) (t : ℕ) (held after : Record) → p ≡ old.program → AreInLine old recs
     → MayMove p (final p old.history) t
     → ((u : ℕ) → ¬ IsReady old u) → MakesMove old new (moved_on (def (get_or recs t held)) (get_or recs t held).phase (get_or recs t held)) after
     → GoesOn old new (slice_set recs t after)
-goes_on_started p old new recs t held after same plain line may none made =
+goes_on_started p old new recs t held after same line may none made =
     let exists = task_exists p old t same may in
     let own = line_here p old recs t held same line exists in
     goes_on old new old.handed recs t (get_or recs t held) _ after (moved_on_task (def (get_or recs t held)) (get_or recs t held).phase
-    (get_or recs t held)) line (subst IsPlain same plain) (λ u other. refl)
+    (get_or recs t held)) line (λ u other. refl)
     (own.handed_out ∙ ap Some (started_if (get_or recs t held).phase (was_started p old t (get_or recs t held) same own may none)))
     (here_is old recs t held line exists) (subst (λ (q : Program). MayMove q (final q old.history) t) same may) made
 
@@ -144,13 +143,12 @@ pub given_history : (old given : Ledger) (t : ℕ) → given ≡ record old { ha
 given_history old given t handed = ap (λ (l : Ledger). l.history) handed
 
 -- the turn of a task that is ready
-pub goes_on_ready : (p : Program) (old given new : Ledger) (recs : List Record) (t : ℕ) (held after : Record) → p ≡ old.program → IsPlain p
-    → AreInLine old recs → IsReady old t
+pub goes_on_ready : (p : Program) (old given new : Ledger) (recs : List Record) (t : ℕ) (held after : Record) → p ≡ old.program → AreInLine old recs → IsReady old t
     → given ≡ record old { handed = slice_set old.handed t true } → MakesMove given new (get_or recs t held) after → GoesOn old new (slice_set recs t after)
-goes_on_ready p old given new recs t held after same plain line ready handed made =
+goes_on_ready p old given new recs t held after same line ready handed made =
     let own = line_here p old recs t held same line ready.1.exists in
     let may : MayMove p (final p old.history) t = subst (MayMove p (final p old.history)) own.mine (ready_may p old t (get_or recs t held) same own ready) in
-    goes_on old new (slice_set old.handed t true) recs t (get_or recs t held) (get_or recs t held) after refl line (subst IsPlain same plain)
+    goes_on old new (slice_set old.handed t true) recs t (get_or recs t held) (get_or recs t held) after refl line
     (λ u other. slice_get-set_other old.handed t u true other)
     (slice_get-set_same old.handed t true (slice_get_within old.handed t false ready.0))
     (here_is old recs t held line ready.1.exists) (subst (λ (q : Program). MayMove q (final q old.history) t) same may)

@@ -1,17 +1,14 @@
 -- Which programs the plain run takes.
-use Rattle.std.specs.Prelude.{◌≡◌, true, All, ⊤}
+use Rattle.std.specs.Prelude.{◌≡◌, false, All, Some}
 use Rattle.rt_base.specs.declared.data.Op.{Op}
-use Rattle.rt_base.specs.declared.data.Op.TheVariants as op
 use Rattle.rt_base.specs.declared.data.TaskDef.{TaskDef}
 use Rattle.rt_base.specs.declared.data.Program.{Program}
-use Rattle.rt_base.specs.Operations.{blocks}
+use Rattle.core_book.specs.Ledger.{is_binding}
 
--- the operation is a local one, or a posting that blocks (MPI 4.0, 3.4)
+-- the operation binds no request: it is no iwait and no iwaitall (TAMPI, TAMPI_Iwait and TAMPI_Iwaitall)
 abbrev pub IsPlainOperation : Op → Type 0
-IsPlainOperation (op.Compute kind dst left right value step) = ⊤
-IsPlainOperation (op.Post how span peer tag comm status) = blocks how ≡ true
-IsPlainOperation (op.Await later handles status) = ⊥
+IsPlainOperation operation = is_binding (Some operation) ≡ false
 
--- each operation of each task is such a one
+-- no operation of a task binds one
 abbrev pub IsPlain : Program → Type 0
 IsPlain program = All (λ (def : TaskDef). All IsPlainOperation def.body.items) program.tasks.items

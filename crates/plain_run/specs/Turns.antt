@@ -1,5 +1,5 @@
 -- How the plain run keeps the records of the tasks. No public clause cites this module.
-use Rattle.std.specs.Prelude.{◌≡◌, ℕ, ◌+◌, ◌≤◌, Bool, true, false, List, [], ◌∷◌, length, slice_get, Option, Some, None, ⊤}
+use Rattle.std.specs.Prelude.{◌≡◌, ℕ, ◌+◌, ◌<◌, ◌≤◌, Bool, true, false, List, [], ◌∷◌, length, slice_get, Option, Some, None, ⊤}
 use Rattle.rt_base.specs.declared.data.TaskNo.{TaskNo}
 use Rattle.rt_base.specs.declared.data.ReqNo.{ReqNo}
 use Rattle.rt_base.specs.declared.data.Phase.{Phase}
@@ -9,7 +9,7 @@ use Rattle.rt_base.specs.declared.data.Program.{Program}
 use Rattle.rt_base.specs.State.{State}
 use Rattle.task_local.specs.StandsFor.{Record, StandsFor}
 use Rattle.task_local.specs.Standing.{def}
-use Rattle.core_book.specs.Ledger.{Ledger, IsBlocking}
+use Rattle.core_book.specs.Ledger.{Ledger}
 use Rattle.task_machine.specs.Legal.{final, phases_of, IsQuiet}
 use Rattle.task_machine.specs.Course.{all_left}
 
@@ -22,11 +22,11 @@ is_started phase.Ended = true
 is_started phase.Returned = true
 is_started phase.Released = true
 
--- where the task is in an operation, that is a posting that blocks
+-- where the task is in an operation, its body has that operation
 abbrev pub IsPlaced : TaskDef → Phase → Type 0
 IsPlaced def phase.Waiting = ⊤
 IsPlaced def (phase.At k) = ⊤
-IsPlaced def (phase.In k) = IsBlocking (slice_get def.body.items k)
+IsPlaced def (phase.In k) = k < length def.body.items
 IsPlaced def phase.Ended = ⊤
 IsPlaced def phase.Returned = ⊤
 IsPlaced def phase.Released = ⊤

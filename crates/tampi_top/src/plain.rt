@@ -8,11 +8,7 @@ use rt_base::{Op, Program};
 fn is_plain_operation(operation: &Op) -> bool
     ensures { IsTrue result ↔ IsPlainOperation operation.now }
 {
-    match operation {
-        Op::Compute { .. } => true,
-        Op::Post { how, .. } => how.blocks(),
-        Op::Await { .. } => false,
-    }
+    !matches!(operation, Op::Await { later: true, .. })
 }
 
 fn is_plain_body(operations: &[Op]) -> bool
@@ -23,7 +19,7 @@ fn is_plain_body(operations: &[Op]) -> bool
         .all(|operation| is_plain_operation(operation))
 }
 
-/// Whether each operation is a local one or a call that blocks. Looks at each operation.
+/// Whether no operation binds requests. Looks at each operation.
 pub fn is_plain(program: &Program) -> bool
     ensures { IsTrue result ↔ IsPlain program.now }
 {

@@ -34,7 +34,7 @@ move_one-requires-clause-enabled c =
 pub returns-in_ok-look_again-in-Some : goal.returns-in_ok-look_again-in-Some
 returns-in_ok-look_again-in-Some c =
     goes_on_started c.args.prog.now c.args.book.now c.move_one.new.book c.args.recs.now c.in-Some.task.0 c.index-recs-task.result c.move_one.new.rec
-    c.requires.same c.requires.plain c.requires.in_line
+    c.requires.same c.requires.in_line
     c.in-Some.ensures.some c.requires.none_ready c.in_ok-move_one-in-Some.ensures
 
 pub returns-in-None : goal.returns-in-None

@@ -4,7 +4,7 @@ use Rattle.task_local.specs.StandsFor.{Record}
 use Rattle.core_book.specs.Ledger.{MakesMove}
 use Rattle.task_local.specs.Standing.{def}
 use Rattle.task_machine.specs.Legal.{final}
-use Rattle.plain_run.proofs.Before.{is_before, not_local, not_fresh, at_posting, in_posting, has_ended}
+use Rattle.plain_run.proofs.Before.{is_before, not_local, not_fresh, at_call, in_operation, has_ended}
 use Rattle.plain_run.proofs.run.move_one.Goals as goal
 
 pub unreachable-requires : goal.unreachable-requires
@@ -30,21 +30,28 @@ call-requires-clause-stands c =
     (is_before p (final p c.args.book.now.history) c.args.book.now.handed c.args.rec.now.task c.args.rec.now mid c.requires.plain c.requires.in_line
     c.requires.started c.requires.enabled c.run_local.ensures).stands
 
-pub call-requires-clause-posting : goal.call-requires-clause-posting
-call-requires-clause-posting c =
+pub call-requires-clause-before : goal.call-requires-clause-before
+call-requires-clause-before c =
     let p = c.args.prog.now in
     let mid = c.run_local.new.self in
     let b = is_before p (final p c.args.book.now.history) c.args.book.now.handed c.args.rec.now.task c.args.rec.now mid c.requires.plain c.requires.in_line
     c.requires.started c.requires.enabled c.run_local.ensures in
-    at_posting (def mid) mid.phase c.in-Call.field-0 b.able (sym c.at.ensures.at ∙ c.in-Call.is)
+    at_call (def mid) mid.phase c.in-Call.field-0 b.able (sym c.at.ensures.at ∙ c.in-Call.is)
 
-pub leave-requires-clause-posting : goal.leave-requires-clause-posting
-leave-requires-clause-posting c =
+pub call-requires-clause-unbinding : goal.call-requires-clause-unbinding
+call-requires-clause-unbinding c =
+    let p = c.args.prog.now in
+    let mid = c.run_local.new.self in
+    (is_before p (final p c.args.book.now.history) c.args.book.now.handed c.args.rec.now.task c.args.rec.now mid c.requires.plain c.requires.in_line
+    c.requires.started c.requires.enabled c.run_local.ensures).unbinding
+
+pub leave-requires-clause-within : goal.leave-requires-clause-within
+leave-requires-clause-within c =
     let p = c.args.prog.now in
     let mid = c.run_local.new.self in
     let b = is_before p (final p c.args.book.now.history) c.args.book.now.handed c.args.rec.now.task c.args.rec.now mid c.requires.plain c.requires.in_line
     c.requires.started c.requires.enabled c.run_local.ensures in
-    in_posting (def mid) mid.phase c.in-In.field-0 b.able (sym c.at.ensures.at ∙ c.in-In.is)
+    in_operation (def mid) mid.phase c.in-In.field-0 b.able (sym c.at.ensures.at ∙ c.in-In.is)
 
 pub ret-requires-clause-stands : goal.ret-requires-clause-stands
 ret-requires-clause-stands c =

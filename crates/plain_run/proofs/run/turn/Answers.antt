@@ -48,7 +48,7 @@ start-requires-clause-handed c =
 pub returns-in_ok-push-in-Some : goal.returns-in_ok-push-in-Some
 returns-in_ok-push-in-Some c =
     goes_on_ready c.args.prog.now c.args.book.now c.ready.new.self c.start.new.self c.args.recs.now c.in-Some.task.0 c.index-recs-task.result
-    c.start.new.rec c.requires.same c.requires.plain c.requires.in_line
+    c.start.new.rec c.requires.same c.requires.in_line
     c.in-Some.ensures.startable c.in-Some.ensures.handed c.start.ensures
 
 pub returns-in-None : goal.returns-in-None

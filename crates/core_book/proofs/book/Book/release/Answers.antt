@@ -1,6 +1,6 @@
 -- The book after a release, and the record.
 use Rattle.std.proofs.Common.{◌≡◌, ◌∙◌, refl, sym, ap, subst, List, ◌++◌, ◌-◌, length, take, drop, arith}
-use Rattle.std.specs.Prelude.{ℤ}
+use Rattle.std.specs.Prelude.{ℤ, vec_capacity}
 use Rattle.rt_base.specs.declared.data.Phase.TheVariants as phase
 use Rattle.rt_base.specs.declared.data.Program.{Program}
 use Rattle.rt_base.specs.declared.data.Entry.{Entry}
@@ -53,7 +53,7 @@ count_of-from-requires c =
 pub note-requires : goal.note-requires
 note-requires c =
     let h = here (goal.at.note-requires c).After-task-task in
-    (room_at (shelf_of c.self.inside) c.args.rec.now c.task-task.result.0 _ phase.Returned phase.Returned c.self.invariant.kept h h.stands.0 (omega arith)).0
+    room_at (shelf_of c.self.inside) c.args.rec.now c.task-task.result.0 _ phase.Returned phase.Returned c.self.invariant.kept h h.stands.0 (omega arith)
 
 pub overflow_sub-self : goal.overflow_sub-self
 overflow_sub-self c =
@@ -99,9 +99,11 @@ invariant_of-self c =
     let d = (stands at).def in
     let h = here at in
     let is_put = put noted h in
-    let m = release_moved s held t c.count_of-from.result _ d c.release.new.self _ c.note.new.list.items c.set.new.self _ c.self.invariant.kept h is_put
+    let m = release_moved s held t c.count_of-from.result _ d c.release.new.self _ c.note.new.list.items c.set.new.self c.clear.new.self.items _
+    (vec_capacity c.clear.new.self) c.self.invariant.kept h is_put
     c.release.ensures.program c.release.ensures.handed c.release.ensures.released c.release.ensures.places
-    (c.count_of-from.ensures ∙ ap (λ l. length l) c.deref.ensures.value) c.note.ensures.items c.note.ensures.places in
+    (c.count_of-from.ensures ∙ ap (λ l. length l) c.deref.ensures.value) c.note.ensures.items c.clear.ensures.items
+    c.note.ensures.places (omega (arith, c.clear.ensures.capacity)) in
     let changed = release_changed s held t d _ c.self.invariant.kept h (may at) is_put (long_back noted) in
     record {
       kept = book_after s _ t d h.was _ _ _ c.self.invariant.kept changed m;
@@ -120,10 +122,11 @@ returns c =
     let d = (stands at).def in
     let h = here at in
     let is_put = put noted h in
-    let m = release_moved s held t c.count_of-from.result (c.self.inside.unreleased - 1) d c.release.new.self _ c.note.new.list.items c.set.new.self _
-    c.self.invariant.kept h is_put
+    let m = release_moved s held t c.count_of-from.result (c.self.inside.unreleased - 1) d c.release.new.self _ c.note.new.list.items c.set.new.self
+    c.clear.new.self.items _ (vec_capacity c.clear.new.self) c.self.invariant.kept h is_put
     c.release.ensures.program c.release.ensures.handed c.release.ensures.released c.release.ensures.places
-    (c.count_of-from.ensures ∙ ap (λ l. length l) c.deref.ensures.value) c.note.ensures.items c.note.ensures.places in
+    (c.count_of-from.ensures ∙ ap (λ l. length l) c.deref.ensures.value) c.note.ensures.items c.clear.ensures.items
+    c.note.ensures.places (omega (arith, c.clear.ensures.capacity)) in
     let changed = release_changed s held t d _ c.self.invariant.kept h (may at) is_put (long_back noted) in
     let left = release_left s held c.go.new.self t d c.self.invariant.kept h c.go.ensures in
     makes_move s _ held c.go.new.self t d h.was _ _ _ (book_after s _ t d h.was _ _ _ c.self.invariant.kept changed m) changed m h.who h.program

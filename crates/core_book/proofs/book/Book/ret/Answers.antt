@@ -1,5 +1,5 @@
 -- The book after a return, and the record.
-use Rattle.std.proofs.Common.{◌∙◌, sym, subst, slice_set, refl, arith}
+use Rattle.std.proofs.Common.{◌∙◌, sym, subst, refl, arith}
 use Rattle.std.specs.Prelude.{vec_capacity}
 use Rattle.rt_base.specs.declared.data.Phase.TheVariants as phase
 use Rattle.rt_base.specs.declared.data.Program.{Program}
@@ -7,7 +7,7 @@ use Rattle.rt_base.specs.declared.data.Entry.{Entry}
 use Rattle.std.specs.Prelude.{List}
 use Rattle.task_local.specs.StandsFor.{Record, StandsFor, StandsAs}
 use Rattle.task_machine.specs.Legal.{final}
-use Rattle.core_book.specs.Kept.{Shelf, state_now}
+use Rattle.core_book.specs.Kept.{state_now}
 use Rattle.core_book.proofs.Insides.{shelf_of}
 use Rattle.core_book.proofs.Moved.{book_after, gone_more, makes_move}
 use Rattle.core_book.proofs.Held.{Held, held_as, own, room_at}
@@ -15,7 +15,7 @@ use Rattle.core_book.proofs.BookMoves.{left_as, returned_task, ret_changed, ret_
 use Rattle.core_book.proofs.CountMoves.{ret_counted}
 use Rattle.core_book.proofs.Numbers.{ret_numbered}
 use Rattle.core_book.proofs.book.Book.ret.Goals as goal
-use Rattle.core_book.proofs.book.Book.ret.Goals.{After-task-task, After-note}
+use Rattle.core_book.proofs.book.Book.ret.Goals.{After-task-task}
 
 stands : (c : After-task-task) → StandsFor (shelf_of c.self.inside).program c.args.rec.now (state_now (shelf_of c.self.inside))
 stands c =
@@ -26,18 +26,10 @@ here : (c : After-task-task) → Held (shelf_of c.self.inside) c.args.rec.now c.
 unfolding stands
 here c = held_as (shelf_of c.self.inside) c.args.rec.now c.task-task.result.0 phase.Ended (stands c) c.task-task.ensures c.requires.ended
 
--- the insides after the return
-abbrev later : (c : After-note) → Shelf
-later c = record (shelf_of c.self.inside) {
-  phases = slice_set c.self.inside.phases.items c.task-task.result.0 phase.Returned;
-  entries = c.note.new.list.items;
-  entry_places = vec_capacity c.note.new.list;
-}
-
 pub note-requires : goal.note-requires
 note-requires c =
     let h = here (goal.at.note-requires c).After-task-task in
-    (room_at (shelf_of c.self.inside) c.args.rec.now c.task-task.result.0 _ phase.Ended phase.Ended c.self.invariant.kept h h.stands.0 (omega arith)).0
+    room_at (shelf_of c.self.inside) c.args.rec.now c.task-task.result.0 _ phase.Ended phase.Ended c.self.invariant.kept h h.stands.0 (omega arith)
 
 pub invariant_of-self : goal.invariant_of-self
 invariant_of-self c =
@@ -47,7 +39,8 @@ invariant_of-self c =
     let at = (goal.at.invariant_of-self c).After-task-task in
     let d = (stands at).def in
     let h = here at in
-    let m = ret_moved s held t d c.note.new.list.items _ c.self.invariant.kept h c.note.ensures.items c.note.ensures.places in
+    let m = ret_moved s held t d c.note.new.list.items c.clear.new.self.items _ (vec_capacity c.clear.new.self) c.self.invariant.kept h c.note.ensures.items
+    c.clear.ensures.items c.note.ensures.places (omega (arith, c.clear.ensures.capacity)) in
     let changed = ret_changed s held t d c.self.invariant.kept h in
     record {
       kept = book_after s _ t d h.was _ _ _ c.self.invariant.kept changed m;
@@ -63,7 +56,8 @@ returns c =
     let at = (goal.at.returns c).After-task-task in
     let d = (stands at).def in
     let h = here at in
-    let m = ret_moved s held t d c.note.new.list.items _ c.self.invariant.kept h c.note.ensures.items c.note.ensures.places in
+    let m = ret_moved s held t d c.note.new.list.items c.clear.new.self.items _ (vec_capacity c.clear.new.self) c.self.invariant.kept h c.note.ensures.items
+    c.clear.ensures.items c.note.ensures.places (omega (arith, c.clear.ensures.capacity)) in
     let changed = ret_changed s held t d c.self.invariant.kept h in
     makes_move s _ held c.go.new.self t d h.was _ _ _ (book_after s _ t d h.was _ _ _ c.self.invariant.kept changed m) changed m h.who h.program
     (c.go.ensures ∙ sym (left_as s held t d phase.Ended h))

@@ -1,5 +1,5 @@
 -- The book after a start, and the record.
-use Rattle.std.proofs.Common.{◌≡◌, ◌∙◌, ap, sym, slice_get, slice_set, Some, true, refl, arith}
+use Rattle.std.proofs.Common.{◌≡◌, ◌∙◌, ap, sym, slice_get, Some, true, refl, arith}
 use Rattle.rt_base.specs.declared.data.Phase.TheVariants as phase
 use Rattle.rt_base.specs.declared.data.Entry.TheVariants as entry
 use Rattle.rt_base.specs.Operations.{task_no}
@@ -12,7 +12,7 @@ use Rattle.core_book.proofs.Few.{few_operations}
 use Rattle.core_book.proofs.Insides.{shelf_of}
 use Rattle.core_book.proofs.Moved.{IsMoved, book_after, gone_more, makes_move}
 use Rattle.core_book.proofs.Held.{Held, held_at, may_move, room_at, same_program}
-use Rattle.core_book.proofs.BookMoves.{left_as, started_task, start_changed, start_moved, start_left, start_stands}
+use Rattle.core_book.proofs.BookMoves.{left_as, shelf_after, started_task, start_changed, start_moved, start_left, start_stands}
 use Rattle.core_book.proofs.CountMoves.{start_counted}
 use Rattle.core_book.proofs.Numbers.{start_numbered}
 use Rattle.core_book.proofs.book.Book.start.Goals as goal
@@ -36,11 +36,8 @@ mine c =
 
 -- the insides after the start
 abbrev later : (c : After-note) → Shelf
-later c = record (shelf_of c.self.inside) {
-  phases = slice_set c.self.inside.phases.items c.task-task.result.0 c.stop.result;
-  entries = c.note.new.list.items;
-  entry_places = vec_capacity c.note.new.list;
-}
+later c = shelf_after (shelf_of c.self.inside) c.task-task.result.0 c.stop.result c.note.new.list.items c.clear.new.self.items
+    (vec_capacity c.note.new.list) (vec_capacity c.clear.new.self)
 
 moved : (c : After-note) → (h : Held (shelf_of c.self.inside) c.args.rec.now c.task-task.result.0 c.task_of-def.result.now phase.Waiting)
     → slice_get (shelf_of c.self.inside).ready.handed c.task-task.result.0 ≡ Some true
@@ -48,9 +45,9 @@ moved : (c : After-note) → (h : Held (shelf_of c.self.inside) c.args.rec.now c
     (start_move (shelf_of c.self.inside).program (state_now (shelf_of c.self.inside)) c.task-task.result.0 c.task_of-def.result.now h.was).state
     (entry.Start (task_no c.task-task.result.0))
 moved c h handed =
-    start_moved (shelf_of c.self.inside) c.args.rec.now c.task-task.result.0 c.task_of-def.result.now c.stop.result c.note.new.list.items _
-    c.self.invariant.kept h handed
-    c.stop.ensures c.note.ensures.items c.note.ensures.places
+    start_moved (shelf_of c.self.inside) c.args.rec.now c.task-task.result.0 c.task_of-def.result.now c.stop.result c.note.new.list.items
+    c.clear.new.self.items (vec_capacity c.note.new.list) (vec_capacity c.clear.new.self) c.self.invariant.kept h handed
+    c.stop.ensures c.note.ensures.items c.clear.ensures.items c.note.ensures.places (omega (arith, c.clear.ensures.capacity))
 
 pub stop-requires-clause-few : goal.stop-requires-clause-few
 stop-requires-clause-few c = few_operations c.args.prog.now c.task-task.result.0 c.task_of-def.result.now c.requires.well_formed c.task_of-def.ensures
@@ -58,8 +55,8 @@ stop-requires-clause-few c = few_operations c.args.prog.now c.task-task.result.0
 pub note-requires : goal.note-requires
 note-requires c =
     let h = here (goal.at.note-requires c).After-task_of-def in
-    (room_at (shelf_of c.self.inside) c.args.rec.now c.task-task.result.0 c.task_of-def.result.now phase.Waiting phase.Waiting c.self.invariant.kept h
-    h.stands (omega arith)).0
+    room_at (shelf_of c.self.inside) c.args.rec.now c.task-task.result.0 c.task_of-def.result.now phase.Waiting phase.Waiting c.self.invariant.kept h
+    h.stands (omega arith)
 
 pub invariant_of-self : goal.invariant_of-self
 invariant_of-self c =

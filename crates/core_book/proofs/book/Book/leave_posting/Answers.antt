@@ -1,0 +1,211 @@
+-- The book after the end of a posting, and the record.
+use Rattle.std.proofs.Common.{◌≡◌, ◌∙◌, ◌+◌, ◌^◌, ◌<◌, ℕ, Some, ap, sym, length, slice_get, refl, arith}
+use Rattle.std.specs.Prelude.{vec_capacity}
+use Rattle.rt_base.specs.declared.data.Phase.TheVariants as phase
+use Rattle.rt_base.specs.Operations.{nth_at, request}
+use Rattle.task_machine.specs.Machine.{leave_move}
+use Rattle.core_book.specs.Kept.{Shelf, state_now, told_now}
+use Rattle.core_book.proofs.Insides.{shelf_of}
+use Rattle.core_book.proofs.Few.{few_operations}
+use Rattle.core_book.proofs.BookLemmas.{status_count}
+use Rattle.core_book.proofs.Moved.{IsMoved, book_after, gone_more, makes_move}
+use Rattle.core_book.proofs.Held.{room_at, place_within}
+use Rattle.core_book.proofs.BookMoves.{left_as}
+use Rattle.core_book.proofs.LeaveLemmas.{Inside, Leaves, inside, is_done, stores, received_fit, status_received, status_declared, status_room, shelf_left, left_task, told_here, within_body, leave_changed, leave_moved, leave_left, leave_record, leave_stands}
+use Rattle.core_book.proofs.CountMoves.{leave_counted}
+use Rattle.core_book.proofs.Numbers.{leave_number, last_number, number_some, leave_numbered}
+use Rattle.core_book.proofs.book.Book.leave_posting.Goals as goal
+use Rattle.core_book.proofs.book.Book.leave_posting.Goals.{After-last-arg-1, After-note}
+
+-- the task stands in the posting
+within : (c : After-last-arg-1) → Inside (shelf_of c.self.inside) c.args.rec.now c.task-task.result.0 c.args.k c.task_of-def.result.now c.args.posting
+within c =
+    inside (shelf_of c.self.inside) c.args.rec.now c.task-task.result.0 c.args.k c.task_of-def.result.now c.args.posting
+    c.args.self.now c.args.prog.now c.self.invariant.kept c.self.view_is c.requires.same c.requires.stands c.requires.enabled c.task-task.ensures
+    c.task_of-def.ensures c.requires.within c.requires.posts
+
+counts : (c : After-last-arg-1) → slice_get c.self.inside.posted c.task-task.result.0 ≡ Some (nth_at c.task_of-def.result.now c.args.k + 1)
+unfolding within
+counts c =
+    leave_number (shelf_of c.self.inside) c.args.rec.now c.task-task.result.0 c.args.k c.task_of-def.result.now c.args.posting
+    c.self.invariant
+    (within c).in_it.here (within c).posts
+
+pub last-requires : goal.last-requires
+last-requires c =
+    number_some (nth_at c.task_of-def.result.now c.args.k) c.task-task.result.0 c.self.inside.posted
+    (counts (goal.at.last-requires c).After-last-arg-1)
+
+-- the request is that of the posting
+nth : (c : After-last-arg-1) (n : ℕ) → slice_get c.self.inside.posted c.task-task.result.0 ≡ Some (n + 1)
+    → n ≡ nth_at c.task_of-def.result.now c.args.k
+nth c n read = last_number (nth_at c.task_of-def.result.now c.args.k) c.task-task.result.0 n c.self.inside.posted (counts c) read
+
+pub cells-requires : goal.cells-requires
+cells-requires c =
+    let at = (goal.at.cells-requires c).After-last-arg-1 in
+    is_done (shelf_of c.self.inside) c.args.rec.now c.task-task.result.0 c.args.k c.last.result c.task_of-def.result.now
+    c.args.posting
+    c.self.invariant.kept (within at) (nth at c.last.result c.last.ensures)
+
+pub store-requires-clause-declared : goal.store-requires-clause-declared
+store-requires-clause-declared c =
+    stores (shelf_of c.self.inside) c.args.rec.now c.task-task.result.0 c.args.k c.task_of-def.result.now c.args.posting
+    c.self.invariant.kept (within (goal.at.store-requires-clause-declared c).After-last-arg-1)
+
+pub store-requires-clause-fits : goal.store-requires-clause-fits
+store-requires-clause-fits c =
+    let at = (goal.at.store-requires-clause-fits c).After-last-arg-1 in
+    received_fit (shelf_of c.self.inside) c.args.rec.now c.task-task.result.0 c.args.k c.last.result c.task_of-def.result.now
+    c.args.posting
+    c.cells.result.now c.self.invariant.kept (within at) (nth at c.last.result c.last.ensures) c.cells.ensures
+
+pub count_of-from-requires : goal.count_of-from-requires
+count_of-from-requires c =
+    let few = status_count (shelf_of c.self.inside) c.self.invariant.kept in
+    let seen = ap (λ l. length l) c.deref.ensures.value in
+    omega arith
+
+-- there is room for the entry and for the status
+room : (c : After-last-arg-1) → length c.self.inside.entries.items < vec_capacity c.self.inside.entries
+room c =
+    let i = within c in
+    room_at (shelf_of c.self.inside) c.args.rec.now c.task-task.result.0 c.task_of-def.result.now (phase.In c.args.k) (phase.In c.args.k)
+    c.self.invariant.kept i.in_it.here i.in_it.here.stands.0 (omega arith)
+
+pub tell_status-count-requires-clause-room : goal.tell_status-count-requires-clause-room
+tell_status-count-requires-clause-room c =
+    status_room (shelf_of c.self.inside) c.args.rec.now c.task-task.result.0 c.args.k c.task_of-def.result.now c.args.posting c.self.invariant.kept
+    (within (goal.at.tell_status-count-requires-clause-room c).After-last-arg-1)
+
+pub tell_status-count-requires-clause-complete : goal.tell_status-count-requires-clause-complete
+tell_status-count-requires-clause-complete c =
+    let at = (goal.at.tell_status-count-requires-clause-complete c).After-last-arg-1 in
+    is_done (shelf_of c.self.inside) c.args.rec.now c.task-task.result.0 c.args.k c.last.result c.task_of-def.result.now
+    c.args.posting
+    c.self.invariant.kept (within at) (nth at c.last.result c.last.ensures)
+
+pub store_status-requires-clause-complete : goal.store_status-requires-clause-complete
+store_status-requires-clause-complete c =
+    let at = (goal.at.store_status-requires-clause-complete c).After-last-arg-1 in
+    is_done (shelf_of c.self.inside) c.args.rec.now c.task-task.result.0 c.args.k c.last.result c.task_of-def.result.now
+    c.args.posting
+    c.self.invariant.kept (within at) (nth at c.last.result c.last.ensures)
+
+pub store_status-requires-clause-receive : goal.store_status-requires-clause-receive
+store_status-requires-clause-receive c =
+    status_received (shelf_of c.self.inside) c.args.rec.now c.task-task.result.0 c.args.k c.task_of-def.result.now c.args.posting
+    c.self.invariant.kept (within (goal.at.store_status-requires-clause-receive c).After-last-arg-1)
+
+pub store_status-requires-clause-declared : goal.store_status-requires-clause-declared
+store_status-requires-clause-declared c =
+    status_declared (shelf_of c.self.inside) c.args.rec.now c.store.new.self c.task-task.result.0 c.args.k c.task_of-def.result.now
+    c.args.posting _
+    c.self.invariant.kept (within (goal.at.store_status-requires-clause-declared c).After-last-arg-1) c.store.ensures
+
+-- the next operation has a number
+short : (c : After-last-arg-1) → c.args.k + 1 < 2 ^ 32
+short c =
+    let few = few_operations c.args.prog.now c.task-task.result.0 c.task_of-def.result.now c.requires.well_formed c.task_of-def.ensures in
+    let inner = within_body (shelf_of c.self.inside) c.args.rec.now c.task-task.result.0 c.args.k c.task_of-def.result.now (within c).in_it in
+    omega arith
+
+pub overflow_add-k : goal.overflow_add-k
+overflow_add-k c =
+    let less = short (goal.at.overflow_add-k c).After-last-arg-1 in
+    omega arith
+
+pub stop-requires-clause-within : goal.stop-requires-clause-within
+stop-requires-clause-within c =
+    let i = within (goal.at.stop-requires-clause-within c).After-last-arg-1 in
+    let inner = within_body (shelf_of c.self.inside) c.args.rec.now c.task-task.result.0 c.args.k c.task_of-def.result.now i.in_it in
+    omega arith
+
+pub stop-requires-clause-few : goal.stop-requires-clause-few
+stop-requires-clause-few c = few_operations c.args.prog.now c.task-task.result.0 c.task_of-def.result.now c.requires.well_formed c.task_of-def.ensures
+
+pub index_mut-requires : goal.index_mut-requires
+index_mut-requires c =
+    let i = within (goal.at.index_mut-requires c).After-last-arg-1 in
+    let inner = place_within (shelf_of c.self.inside) c.args.rec.now c.task-task.result.0 c.task_of-def.result.now
+    (phase.In c.args.k) c.self.invariant.kept i.in_it.here in
+    let len = c.self.inside.phases.len in
+    omega arith
+
+pub overflow_add-k-2 : goal.overflow_add-k-2
+overflow_add-k-2 c =
+    let less = short (goal.at.overflow_add-k-2 c).After-last-arg-1 in
+    omega arith
+
+pub note-requires : goal.note-requires
+note-requires c = room (goal.at.note-requires c).After-last-arg-1
+
+-- what the calls have answered
+leaves : (c : After-note) → Leaves (shelf_of c.self.inside) c.tell_status-count.new.statuses.items c.note.new.list.items c.task-task.result.0 c.args.k
+    c.count_of-from.result c.tell_status-count.result
+    (told_now (shelf_of c.self.inside).engine.program (shelf_of c.self.inside).engine.exchange (request c.task-task.result.0 c.last.result) c.args.posting.how)
+leaves c = record {
+  from_is = c.count_of-from.ensures ∙ ap (λ l. length l) c.deref.ensures.value;
+  count_is = c.tell_status-count.ensures.count;
+  statuses_are = c.tell_status-count.ensures.items;
+  entries_are = c.note.ensures.items;
+}
+
+-- the insides after the leave
+abbrev later : (c : After-note) → Shelf
+later c = shelf_left (shelf_of c.self.inside) c.task-task.result.0 c.stop.result c.tell_status-count.new.statuses.items c.note.new.list.items
+    c.clear.new.self.items (vec_capacity c.note.new.list) (vec_capacity c.tell_status-count.new.statuses) (vec_capacity c.clear.new.self)
+
+moved : (c : After-note) → (i : Inside (shelf_of c.self.inside) c.args.rec.now c.task-task.result.0 c.args.k c.task_of-def.result.now c.args.posting)
+    → c.last.result ≡ nth_at c.task_of-def.result.now c.args.k
+    → IsMoved (shelf_of c.self.inside) (later c) c.task-task.result.0
+    (left_task (shelf_of c.self.inside) c.task-task.result.0 c.args.k c.task_of-def.result.now i.in_it.here.was)
+    (leave_move (shelf_of c.self.inside).program (state_now (shelf_of c.self.inside)) c.task-task.result.0 c.task_of-def.result.now i.in_it.here.was
+    c.args.k).state
+    (leave_move (shelf_of c.self.inside).program (state_now (shelf_of c.self.inside)) c.task-task.result.0 c.task_of-def.result.now i.in_it.here.was
+    c.args.k).entry
+moved c i is_nth =
+    let s = shelf_of c.self.inside in
+    leave_moved s c.args.rec.now c.task-task.result.0 c.args.k c.count_of-from.result c.tell_status-count.result c.task_of-def.result.now _ c.stop.result
+    c.tell_status-count.new.statuses.items c.note.new.list.items c.clear.new.self.items (vec_capacity c.note.new.list)
+    (vec_capacity c.tell_status-count.new.statuses) (vec_capacity c.clear.new.self) c.self.invariant.kept i.in_it (leaves c)
+    (told_here s c.task-task.result.0 c.args.k c.last.result c.task_of-def.result.now c.args.posting c.self.invariant.kept i.posts is_nth) c.stop.ensures
+    c.clear.ensures.items c.note.ensures.places c.tell_status-count.ensures.places (omega (arith, c.clear.ensures.capacity))
+
+pub invariant_of-self : goal.invariant_of-self
+invariant_of-self c =
+    let s = shelf_of c.self.inside in
+    let held = c.args.rec.now in
+    let t = c.task-task.result.0 in
+    let k = c.args.k in
+    let d = c.task_of-def.result.now in
+    let at = (goal.at.invariant_of-self c).After-last-arg-1 in
+    let i = within at in
+    let m = moved (goal.at.invariant_of-self c).After-note i (nth at c.last.result c.last.ensures) in
+    let changed = leave_changed s held t k d c.self.invariant.kept i.in_it in
+    record {
+      kept = book_after s _ t d i.in_it.here.was _ _ _ c.self.invariant.kept changed m;
+      counted = leave_counted s held t k d c.stop.result _ c.self.invariant i.in_it c.stop.ensures
+          (gone_more s _ t d i.in_it.here.was _ _ _ changed m (rw i.in_it.here.stands.0 refl));
+      numbered = leave_numbered s held t k d c.stop.result c.self.invariant i.in_it c.stop.ensures;
+    }
+
+pub returns : goal.returns
+returns c =
+    let s = shelf_of c.self.inside in
+    let held = c.args.rec.now in
+    let t = c.task-task.result.0 in
+    let k = c.args.k in
+    let d = c.task_of-def.result.now in
+    let at = (goal.at.returns c).After-last-arg-1 in
+    let i = within at in
+    let is_nth = nth at c.last.result c.last.ensures in
+    let m = moved (goal.at.returns c).After-note i is_nth in
+    let changed = leave_changed s held t k d c.self.invariant.kept i.in_it in
+    let left = leave_left s held c.store.new.self c.store_status.new.rec c.go.new.self t k c.last.result d c.args.posting c.phase_before.result
+    c.cells.result.now c.self.invariant.kept i is_nth
+    c.cells.ensures c.store.ensures c.store_status.ensures c.phase_before.ensures c.go.ensures in
+    makes_move s _ held c.go.new.self t d i.in_it.here.was _ _ _ (book_after s _ t d i.in_it.here.was _ _ _ c.self.invariant.kept changed m) changed m
+    i.in_it.here.who i.in_it.here.program
+    (leave_record s held c.go.new.self t k d i.in_it left ∙ sym (left_as s held t d (phase.In k) i.in_it.here))
+    (leave_stands s held c.go.new.self t k d i.in_it.here.was left) c.args.self.now c.self.view_is

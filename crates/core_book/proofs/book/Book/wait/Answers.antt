@@ -1,0 +1,127 @@
+-- The book after the call of a wait, and the record.
+use Rattle.std.proofs.Common.{◌≡◌, ◌∙◌, ◌+◌, ◌<◌, ℕ, sym, ap, List, ◌++◌, length, refl, arith}
+use Rattle.std.specs.Prelude.{vec_capacity}
+use Rattle.rt_base.specs.declared.data.ReqNo.{ReqNo}
+use Rattle.rt_base.specs.declared.data.Handle.{Handle}
+use Rattle.rt_base.specs.declared.data.Phase.{Phase}
+use Rattle.rt_base.specs.declared.data.Phase.TheVariants as phase
+use Rattle.rt_base.specs.Operations.{named_requests}
+use Rattle.task_machine.specs.Machine.{wait_move, open_ones}
+use Rattle.core_book.specs.Kept.{Shelf, state_now, to_tell}
+use Rattle.core_book.proofs.Insides.{shelf_of}
+use Rattle.core_book.proofs.Moved.{IsMoved, book_after, gone_more, makes_move}
+use Rattle.core_book.proofs.Held.{room_at, place_within}
+use Rattle.core_book.proofs.BookMoves.{left_as}
+use Rattle.core_book.proofs.WaitLemmas.{Waits, waits, named_are, wait_room, few_named, shelf_waiting, waiting_in, wait_changed, wait_moved, wait_counted, wait_numbered, wait_left, wait_stands, wait_pending}
+use Rattle.core_book.proofs.book.Book.wait.Goals as goal
+use Rattle.core_book.proofs.book.Book.wait.Goals.{After-clear, After-note}
+
+-- the task stands at the wait
+known : (c : After-clear) → Waits (shelf_of c.self.inside) c.args.rec.now c.task-task.result.0 c.args.k c.task_of.result.now
+known c =
+    waits (shelf_of c.self.inside) c.args.rec.now c.task-task.result.0 c.args.k c.task_of.result.now
+    c.args.self.now c.args.prog.now c.self.view_is c.requires.same c.requires.stands c.task-task.ensures c.task_of.ensures c.requires.at c.requires.waits
+
+named : (c : After-clear) → (w : Waits (shelf_of c.self.inside) c.args.rec.now c.task-task.result.0 c.args.k c.task_of.result.now)
+    → c.handles_at-handles.result.now ≡ w.parts.handles.items
+named c w = named_are _ w.parts c.handles_at-handles.result.now (c.handles_at-handles.ensures 0)
+
+pub note_open-requires : goal.note_open-requires
+note_open-requires c =
+    let at = (goal.at.note_open-requires c).After-clear in
+    let w = known at in
+    let fits = wait_room (shelf_of c.self.inside) c.task-task.result.0 c.args.k c.task_of.result.now w.parts c.self.invariant.kept w.it.here.is_def in
+    let same = ap (λ (z : List Handle). length z) (named at w) in
+    record { room = omega (arith, ap (λ (z : List ReqNo). length z) c.clear.ensures.items, c.clear.ensures.capacity) }
+
+pub open_among-pending-requires : goal.open_among-pending-requires
+open_among-pending-requires c =
+    let at = (goal.at.open_among-pending-requires c).After-clear in
+    let w = known at in
+    let few = few_named (shelf_of c.self.inside) c.args.rec.now c.task-task.result.0 c.args.k c.task_of.result.now (phase.At c.args.k)
+    c.self.invariant.kept w.parts w.it.here (ap (to_tell c.task_of.result.now) w.it.at) in
+    let same = ap (λ (z : List Handle). length z) (named at w) in
+    record { few = omega arith }
+
+index : (c : After-clear) → c.task-task.result.0 < length c.self.inside.phases.items
+index c =
+    place_within (shelf_of c.self.inside) c.args.rec.now c.task-task.result.0 c.task_of.result.now (phase.At c.args.k) c.self.invariant.kept (known c).it.here
+
+pub index_mut-requires : goal.index_mut-requires
+index_mut-requires c =
+    let lt = index (goal.at.index_mut-requires c).After-clear in
+    omega arith
+
+pub set-requires : goal.set-requires
+set-requires c =
+    let lt = index (goal.at.set-requires c).After-clear in
+    let long = c.self.invariant.counted.long in
+    omega arith
+
+pub note-requires : goal.note-requires
+note-requires c =
+    let w = known (goal.at.note-requires c).After-clear in
+    room_at (shelf_of c.self.inside) c.args.rec.now c.task-task.result.0 c.task_of.result.now (phase.At c.args.k) (phase.At c.args.k) c.self.invariant.kept
+    w.it.here w.it.at (omega arith)
+
+-- the insides after the call
+abbrev later : (c : After-note) → Shelf
+later c = shelf_waiting (shelf_of c.self.inside) c.task-task.result.0 c.args.k c.note.new.list.items c.set.new.self c.note_open.new.opened.items
+    (vec_capacity c.note.new.list) (vec_capacity c.note_open.new.opened)
+
+moved : (c : After-note) → (w : Waits (shelf_of c.self.inside) c.args.rec.now c.task-task.result.0 c.args.k c.task_of.result.now)
+    → c.handles_at-handles.result.now ≡ w.parts.handles.items
+    → IsMoved (shelf_of c.self.inside) (later c) c.task-task.result.0 (waiting_in c.args.k w.it.here.was)
+    (wait_move (shelf_of c.self.inside).program (state_now (shelf_of c.self.inside)) c.task-task.result.0 w.it.here.was c.args.k
+    (named_requests c.task-task.result.0 w.parts.handles.items)).state
+    (wait_move (shelf_of c.self.inside).program (state_now (shelf_of c.self.inside)) c.task-task.result.0 w.it.here.was c.args.k
+    (named_requests c.task-task.result.0 w.parts.handles.items)).entry
+moved c w same =
+    let s = shelf_of c.self.inside in
+    wait_moved s c.args.rec.now c.task-task.result.0 c.args.k c.open_among-pending.result c.task_of.result.now c.handles_at-handles.result.now
+    c.note.new.list.items c.set.new.self c.note_open.new.opened.items (vec_capacity c.note.new.list) (vec_capacity c.note_open.new.opened)
+    c.self.invariant.kept w same c.open_among-pending.ensures
+    (c.note_open.ensures.items ∙ ap (λ (z : List ReqNo). z ++ open_ones s.engine.program s.engine.exchange
+    (named_requests c.task-task.result.0 c.handles_at-handles.result.now)) c.clear.ensures.items)
+    c.note.ensures.items c.note.ensures.places (omega (arith, c.clear.ensures.capacity, c.note_open.ensures.places))
+
+pub invariant_of-self : goal.invariant_of-self
+invariant_of-self c =
+    let s = shelf_of c.self.inside in
+    let held = c.args.rec.now in
+    let t = c.task-task.result.0 in
+    let d = c.task_of.result.now in
+    let at = (goal.at.invariant_of-self c).After-clear in
+    let w = known at in
+    let same = named at w in
+    let m = moved (goal.at.invariant_of-self c).After-note w same in
+    let changed = wait_changed s held t c.args.k d c.self.invariant.kept w in
+    record {
+      kept = book_after s _ t d w.it.here.was _ _ _ c.self.invariant.kept changed m;
+      counted = wait_counted s held t c.args.k c.open_among-pending.result d c.handles_at-handles.result.now c.set.new.self _ c.self.invariant w same
+          c.open_among-pending.ensures c.set.ensures (gone_more s _ t d w.it.here.was _ _ _ changed m (rw w.it.at refl));
+      numbered = wait_numbered s held t c.args.k d c.self.invariant w;
+    }
+
+pub returns-clause-moves : goal.returns-clause-moves
+returns-clause-moves c =
+    let s = shelf_of c.self.inside in
+    let held = c.args.rec.now in
+    let t = c.task-task.result.0 in
+    let d = c.task_of.result.now in
+    let at = (goal.at.returns-clause-moves c).After-clear in
+    let w = known at in
+    let m = moved (goal.at.returns-clause-moves c).After-note w (named at w) in
+    let changed = wait_changed s held t c.args.k d c.self.invariant.kept w in
+    makes_move s _ held c.go.new.self t d w.it.here.was _ _ _ (book_after s _ t d w.it.here.was _ _ _ c.self.invariant.kept changed m) changed m
+    w.it.here.who w.it.here.program
+    (wait_left s held c.go.new.self t c.args.k d w c.go.ensures ∙ sym (left_as s held t d (phase.At c.args.k) w.it.here))
+    (wait_stands s held c.go.new.self t c.args.k d w c.go.ensures) c.args.self.now c.self.view_is
+
+pub returns-clause-pending : goal.returns-clause-pending
+returns-clause-pending c =
+    let at = (goal.at.returns-clause-pending c).After-clear in
+    let w = known at in
+    wait_pending (shelf_of c.self.inside) c.args.rec.now c.task-task.result.0 c.args.k c.open_among-pending.result c.task_of.result.now
+    c.handles_at-handles.result.now c.args.self.now c.args.prog.now c.self.invariant.kept w (named at w) c.open_among-pending.ensures c.self.view_is
+    c.requires.same
