@@ -24,3 +24,5 @@ mod order_tests;
 mod tests;
 #[cfg(test)]
 mod unrolled_tests;
+#[cfg(test)]
+mod wait_tests;

@@ -1,11 +1,6 @@
 //! What tasks do in the order that their regions and taskwaits ask, through the top call.
-use crate::tampi;
-use crate::tests::words_of;
-use rt_base::{MemSink, MemSource, OpenGate};
-use std::alloc::{AllocError, Global};
-use std::sync::Wait;
+use crate::tests::ends;
 use std::test::Fail;
-use std::thread::Threads;
 
 const SENT_FROM_A_TASK: &[u8] =
     b"array a, 3\narray b, 3\nshow b\nif rank == 0\ntask\nout a[0..3]\ndo\nramp a[0..3], 5, 2\nend\ntask\nin a[0..3]\ndo\nsend a[0..3], 1, 9\nend\nelse\ntask\nout b[0..3]\ndo\nrecv b[0..3], 0, 9\nend\nend\n";
@@ -23,21 +18,6 @@ const EPOCHS_WITHOUT_TASKS: &[u8] =
     b"array u, 2\nshow u\ntaskwait\ntask\nout u[0..1]\ndo\nfill u[0..1], 3\nend\ntaskwait\ntaskwait\ntask\ninout u[0..2]\ndo\ncopy u[1..2], u[0..1]\nend\ntaskwait\n";
 
 const MOST_TASKS: &[u8] = b"for i = 0 .. 65536\ntask\ndo\nend\nend\n";
-
-// Whether a run of the text finishes with this report.
-fn finishes<R: Threads + Wait + Sync>(
-    rt: &R,
-    alloc: Global,
-    words: &str,
-    text: &[u8],
-    told: &[u8],
-) -> Result<bool, AllocError> {
-    let words = words_of(alloc, words)?;
-    let mut input = MemSource::new(text.to_vec(alloc)?);
-    let mut out = MemSink::new(alloc, 200)?;
-    let outcome = tampi(rt, alloc, words.as_slice(), &mut input, &mut out, &OpenGate);
-    Ok(outcome.status == 0 && out.bytes() == told)
-}
 
 #[test]
 fn tasks_go_as_their_regions_ask(rt: HostRuntime) -> Result<(), Fail> {
@@ -58,7 +38,7 @@ fn tasks_go_as_their_regions_ask(rt: HostRuntime) -> Result<(), Fail> {
         ("run", EPOCHS_WITHOUT_TASKS, b"finished\n0 u 3 3\n"),
     ];
     for (words, text, told) in rows {
-        assert!(rt; finishes(&rt, alloc, words, text, told)?, "{told:?}");
+        assert!(rt; ends(&rt, alloc, words, text, 0, told)?, "{told:?}");
     }
     Ok(())
 }
@@ -67,6 +47,6 @@ fn tasks_go_as_their_regions_ask(rt: HostRuntime) -> Result<(), Fail> {
 #[test]
 fn the_most_tasks_are_run(rt: HostRuntime) -> Result<(), Fail> {
     let alloc = rt.alloc();
-    assert!(rt; finishes(&rt, alloc, "run", MOST_TASKS, b"finished\n")?);
+    assert!(rt; ends(&rt, alloc, "run", MOST_TASKS, 0, b"finished\n")?);
     Ok(())
 }

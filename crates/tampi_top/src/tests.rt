@@ -134,6 +134,21 @@ fn a_text_of_one_byte_too_many_is_too_long(rt: HostRuntime) -> Result<(), Fail> 
     Ok(())
 }
 
+// Whether a run of the text ends with this status and report.
+pub(crate) fn ends<R: Threads + Wait + Sync>(
+    rt: &R,
+    alloc: Global,
+    words: &str,
+    text: &[u8],
+    status: u8,
+    told: &[u8],
+) -> Result<bool, AllocError> {
+    let mut input = MemSource::new(text.to_vec(alloc)?);
+    let mut out = MemSink::new(alloc, 200)?;
+    let outcome = outcome_of(rt, alloc, words, &mut input, &mut out)?;
+    Ok(outcome.status == status && out.bytes() == told)
+}
+
 // Whether a text comes to this, read to its end and without a move: its status, and what was written.
 pub(crate) fn is_told<R: Threads + Wait + Sync>(
     rt: &R,

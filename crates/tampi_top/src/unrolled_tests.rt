@@ -233,7 +233,7 @@ fn the_first_fault_is_told(rt: HostRuntime) -> Result<(), Fail> {
 fn what_cannot_be_run_yet_is_not_built(rt: HostRuntime) -> Result<(), Fail> {
     let alloc = rt.alloc();
     let rows: [&[u8]; 2] = [
-        b"array u, 1\ntask\nin u[0..1]\ndo\nisend q, u[0..1], 0, 0\nwait q\nend\n",
+        b"array u, 1\ntask\nin u[0..1]\ndo\nisend q, u[0..1], 0, 0\niwaitall q\nend\n",
         b"array u, 1\ntask\nout u[0..1]\ndo\nirecv q, u[0..1], null, 0\niwait q\nend\n",
     ];
     for text in rows {
