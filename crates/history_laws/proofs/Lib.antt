@@ -6,3 +6,4 @@ mod Notified
 mod Handles
 pub mod Starting
 pub mod Standing
+pub mod Told

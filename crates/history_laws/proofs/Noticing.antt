@@ -1,5 +1,6 @@
 -- What the move of a task adds to the notices.
-use Rattle.std.proofs.Common.{◌≡◌, ℕ, zero, suc, ◌<◌, ◌≤◌, Bool, true, false, cond, ◌⊎◌, List, [], ◌∷◌, ◌++◌, length, get_or, replicate, slice_get, slice_set, Contains, Option, Some, None, refl, sym, ap, ◌∙◌, subst, inl, inr, arith}
+use Rattle.std.proofs.Common.{◌≡◌, ℕ, zero, suc, ◌<◌, ◌≤◌, Bool, true, false, cond, ◌⊎◌, List, [], ◌∷◌, ◌++◌, length, get_or, replicate, slice_get, slice_set}
+use Rattle.std.proofs.Common.{Contains, Option, Some, None, refl, sym, ap, ◌∙◌, subst, inl, inr, arith}
 use Rattle.std.specs.List.{list_any}
 use Rattle.std.proofs.lemmas.Bool.{or_cases, or_left, or_right, false≢true}
 use Rattle.std.proofs.lemmas.List.{length-replicate}
@@ -200,7 +201,7 @@ step_poll : (p : Program) (s : State) (c : ℕ) → length p.tasks.items ≤ c �
 unfolding step
 step_poll p s c above own = rw (past c (length p.tasks.items) above) (poll_keeps p s _ own)
 
-step_bound : (p : Program) (w : ℕ) (s : State) (c : ℕ) → WaitsNamePosted p → MayStep p w s c → BoundArePosted p s → BoundArePosted p (step p s c).state
+pub step_bound : (p : Program) (w : ℕ) (s : State) (c : ℕ) → WaitsNamePosted p → MayStep p w s c → BoundArePosted p s → BoundArePosted p (step p s c).state
 step_bound p w s c waits may own = elim may [
   | inl moves ↦
       let row = move_row p s c moves.def moves.task moves.task.phase moves.is_def moves.is_task refl in
@@ -216,7 +217,7 @@ run_bound : (p : Program) (w : ℕ) (s : State) (cs : List ℕ) → WaitsNamePos
 run_bound p w s [] waits runs own = own
 run_bound p w s (c ∷ cs) waits runs own = run_bound p w (step p s c).state cs waits runs.1 (step_bound p w s c waits runs.0 own)
 
-none_bound : (p : Program) → BoundArePosted p (opening p)
+pub none_bound : (p : Program) → BoundArePosted p (opening p)
 none_bound p t task at q has =
     let tasks = length p.tasks.items in
     let within : t < tasks = omega (arith, slice_get_within (replicate tasks waiting_task) t task at, length-replicate tasks waiting_task) in

@@ -1,5 +1,6 @@
 -- The notices of a move are the requests that it completes and that a task expects.
-use Rattle.std.proofs.Common.{◌≡◌, ℕ, ◌+◌, ◌<◌, ◌≤◌, Bool, true, false, not, ◌&&◌, cond, ◌⊎◌, List, [], ◌∷◌, ◌++◌, length, slice_get, Contains, ℤ, Option, Some, None, IfSome, refl, sym, ap, ◌∙◌, subst, inl, inr, arith}
+use Rattle.std.proofs.Common.{◌≡◌, ℕ, ◌+◌, ◌<◌, ◌≤◌, Bool, true, false, not, ◌&&◌, cond, ◌⊎◌, List, [], ◌∷◌, ◌++◌, length, slice_get, Contains, ℤ, Option}
+use Rattle.std.proofs.Common.{Some, None, IfSome, refl, sym, ap, ◌∙◌, subst, inl, inr, arith}
 use Rattle.std.specs.Prelude.{◌↔◌, option_map}
 use Rattle.std.specs.List.{list_any}
 use Rattle.std.proofs.lemmas.Bool.{or_cases, or_left, or_right, both_ways, false≢true, cases_Bool}
@@ -17,13 +18,14 @@ use Rattle.rt_base.specs.Matching.{same_request}
 use Rattle.rt_base.specs.Exchange.{Exchange, post, partner}
 use Rattle.rt_base.specs.Completion.{is_complete}
 use Rattle.rt_base.specs.State.{State, Task}
+use Rattle.rt_base.specs.MayMove.{MayMove}
 use Rattle.rt_base.proofs.SameRequest.{one_request}
 use Rattle.rt_base.proofs.Postings.{only_partner}
 use Rattle.match_engine.specs.Laws.{Posted}
 use Rattle.match_engine.proofs.Partners.{partner_completes}
 use Rattle.task_local.specs.Packed.{packed}
 use Rattle.task_machine.specs.Course.{posted_by_phase}
-use Rattle.task_machine.specs.Machine.{Moved, move_at, call_move, post_move, await_move, awaited_at, listened, phase_at, bound_at, is_expected, noticed}
+use Rattle.task_machine.specs.Machine.{Moved, move, move_at, call_move, post_move, await_move, awaited_at, listened, phase_at, bound_at, is_expected, noticed}
 use Rattle.task_machine.specs.Legal.{final}
 use Rattle.task_machine.proofs.Rows.{move-row}
 use Rattle.task_machine.proofs.Items.{same_some}
@@ -94,7 +96,7 @@ unfolding awaited
 awaited_own p t k def q waits is_def has = awaited_op p t k def (slice_get def.body.items k) q waits is_def refl has
 
 -- what is expected by a task is its own and posted
-expected_own : (p : Program) (s : State) (t : ℕ) (q : ReqNo) → WaitsNamePosted p → BoundArePosted p s → (by : IsExpectedBy p s t q)
+pub expected_own : (p : Program) (s : State) (t : ℕ) (q : ReqNo) → WaitsNamePosted p → BoundArePosted p s → (by : IsExpectedBy p s t q)
     → IsPostedBy p t by.task.phase q
 expected_own p s t q waits own by = elim by.expects [
   | inl bound ↦ own t by.task by.is_task q bound
@@ -132,7 +134,7 @@ awaited_inside p t at q inside =
     (ap (λ (o : Option Phase). awaited_at t (Some inside.def) o) (ap Some (sym inside.inside))
     ∙ ap (λ (o : Option TaskDef). awaited_at t o (Some at)) (sym inside.is_def)) inside.names
 
-is_expected_by : (p : Program) (s : State) (q : ReqNo) → IsExpectedBy p s q.task.0 q → is_expected p s.tasks q ≡ true
+pub is_expected_by : (p : Program) (s : State) (q : ReqNo) → IsExpectedBy p s q.task.0 q → is_expected p s.tasks q ≡ true
 unfolding is_expected
 is_expected_by p s q by =
     let t = q.task.0 in
@@ -175,7 +177,7 @@ expected_in p s q (Some task) is any =
           ];
     }
 
-who_expects : (p : Program) (s : State) (q : ReqNo) → is_expected p s.tasks q ≡ true → IsExpectedBy p s q.task.0 q
+pub who_expects : (p : Program) (s : State) (q : ReqNo) → is_expected p s.tasks q ≡ true → IsExpectedBy p s q.task.0 q
 unfolding is_expected
 who_expects p s q any = expected_in p s q (slice_get s.tasks q.task.0) refl any
 
@@ -283,12 +285,11 @@ completed p s calls req cells after_it traced posts o is other some =
     ap (λ (x : Exchange). is_complete p x other) (posts ∙ ap (λ (x : Exchange). post p x req cells) traced.exchange)
     ∙ partner_completes p p.ranks calls req other cells traced.new (ap (λ (x : Exchange). partner p x req cells) (sym traced.exchange) ∙ is ∙ some)
 
-pub noticed_law : MovesNoticeCompletions
-noticed_law p w entries statuses legal waits t may =
-    let s = final p entries in
+-- the notices of a move, where each bound request was posted and the exchange is that of postings
+pub noticed_at : (p : Program) (s : State) (t : ℕ) (calls : List Posted) → WaitsNamePosted p → BoundArePosted p s → Traced p s calls → MayMove p s t
+    → AreNoticed p s (move p s t).state
+noticed_at p s t calls waits own traced may =
     let moved = move_at p s t may.def may.task may.task.phase in
-    let own = bound_end p w entries statuses legal waits in
-    let traced = traced_end p w entries statuses legal in
     subst (λ (m : Moved). AreNoticed p s m.state) (sym (move-row p s t may.def may.task may.task.phase may.is_def may.is_task refl))
     (elim (move_notes p s t may.def may.task may.task.phase) [
       | inl quiet ↦ quiet_notes p s moved quiet
@@ -297,6 +298,10 @@ noticed_law p w entries statuses legal waits t may =
           posting_notes p s t may.def may.task moved
           (record { waits = waits; own = own; is_d = may.is_def; is_task = may.is_task; cells = notes.cells; posts = notes.posts })
           (partner p s.exchange req notes.cells) refl
-          (completed p s (postings_of p entries) req notes.cells moved.state.exchange traced notes.posts (partner p s.exchange req notes.cells) refl)
+          (completed p s calls req notes.cells moved.state.exchange traced notes.posts (partner p s.exchange req notes.cells) refl)
           notes.notes
     ])
+
+pub noticed_law : MovesNoticeCompletions
+noticed_law p w entries statuses legal waits t may =
+    noticed_at p (final p entries) t (postings_of p entries) waits (bound_end p w entries statuses legal waits) (traced_end p w entries statuses legal) may

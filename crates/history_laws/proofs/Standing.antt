@@ -1,28 +1,26 @@
 -- Each notice that stands is of a complete request, and stands once.
-use Rattle.std.proofs.Common.{◌≡◌, ℕ, ◌+◌, ◌-◌, ◌≤◌, Bool, true, false, not, ◌&&◌, cond, ◌⊎◌, List, [], ◌∷◌, ◌++◌, length, ℤ, Option, Some, None}
+use Rattle.std.proofs.Common.{◌≡◌, ℕ, ◌+◌, ◌-◌, ◌≤◌, Bool, true, false, not, ◌&&◌, cond, ◌⊎◌, List, [], ◌∷◌, ◌++◌, length, Option, Some, None}
 use Rattle.std.proofs.Common.{refl, sym, ap, ◌∙◌, subst, inl, inr, arith}
-use Rattle.std.specs.Prelude.{count_by, nat_lt}
-use Rattle.std.proofs.lemmas.Bool.{both_ways, false≢true, false_from_ne_true, cases_Bool}
+use Rattle.std.specs.Prelude.{count_by}
+use Rattle.std.proofs.lemmas.Bool.{both_ways, false≢true, false_from_ne_true}
 use Rattle.std.proofs.lemmas.List.Sums.{sum_by-cons, sum_by-append}
 use Rattle.rt_base.specs.declared.data.ReqNo.{ReqNo}
 use Rattle.rt_base.specs.declared.data.Program.{Program}
 use Rattle.rt_base.specs.Operations.{request}
 use Rattle.rt_base.specs.Matching.{same_request}
-use Rattle.rt_base.specs.Exchange.{Exchange, post, partner}
+use Rattle.rt_base.specs.Exchange.{Exchange, partner}
 use Rattle.rt_base.specs.Completion.{is_complete}
 use Rattle.rt_base.specs.State.{State, opening}
-use Rattle.rt_base.specs.MayMove.{MayMove}
 use Rattle.rt_base.proofs.SameRequest.{one_request}
 use Rattle.rt_base.proofs.Postings.{stays_complete}
 use Rattle.match_engine.specs.Laws.{Posted}
-use Rattle.task_machine.specs.Course.{posted_by_phase}
-use Rattle.task_machine.specs.Machine.{Moved, move, move_at, poll, polled, step, MayStep, is_expected, noticed}
+use Rattle.task_machine.specs.Machine.{Moved, poll, polled, step, MayStep, is_expected, noticed}
 use Rattle.task_machine.specs.Legal.{IsDefined, state_after, state_of}
 use Rattle.task_machine.proofs.Rows.{move-row}
 use Rattle.task_machine.proofs.Runs.{step-task, exists_of_move}
 use Rattle.history_laws.specs.Postings.{postings_by_entry}
 use Rattle.history_laws.specs.Notices.{standing}
-use Rattle.history_laws.proofs.Tracing.{Traced, Adds, step_adds, at_opening, past}
+use Rattle.history_laws.proofs.Tracing.{Traced, step_adds, at_opening, past}
 use Rattle.history_laws.proofs.Notified.{Quiet, Notes, move_notes, completed}
 
 -- how often a request stands in a list of notices

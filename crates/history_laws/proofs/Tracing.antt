@@ -1,5 +1,6 @@
 -- The postings along a run.
-use Rattle.std.proofs.Common.{◌≡◌, ◌≢◌, ℕ, ◌+◌, ◌<◌, ◌≤◌, Bool, true, false, ◌⊎◌, List, [], ◌∷◌, ◌++◌, map, length, slice_get, slice_set, Option, Some, None, refl, sym, ap, ◌∙◌, subst, inl, inr, arith, append_assoc}
+use Rattle.std.proofs.Common.{◌≡◌, ◌≢◌, ℕ, ◌+◌, ◌<◌, ◌≤◌, Bool, true, false, ◌⊎◌, List, [], ◌∷◌, ◌++◌, map, length, slice_get, slice_set, Option, Some, None}
+use Rattle.std.proofs.Common.{refl, sym, ap, ◌∙◌, subst, inl, inr, arith, append_assoc}
 use Rattle.std.specs.Prelude.{Contains, ℤ, nat_lt}
 use Rattle.std.proofs.lemmas.Bool.Decides.{nat_tests}
 use Rattle.std.proofs.lemmas.List.{append-nil, map-append}
@@ -31,7 +32,8 @@ use Rattle.task_machine.proofs.Rows.{move-row}
 use Rattle.task_machine.proofs.Lists.{slice_get-set_same, slice_get-set_other}
 use Rattle.task_machine.proofs.Items.{either_place, at_replicate, same_some}
 use Rattle.task_machine.proofs.Runs.{step-task, exists_of_move}
-use Rattle.history_laws.specs.Postings.{posted_at, posted_in, posted_by_entry, all_posted, cells_at_call, cells_of_entry, postings_by_entry, postings_from, postings_of, HistoriesPostInOrder, NothingMatchesAtTheEnd}
+use Rattle.history_laws.specs.Postings.{posted_at, posted_in, posted_by_entry, all_posted, cells_at_call, cells_of_entry, postings_by_entry, postings_from}
+use Rattle.history_laws.specs.Postings.{postings_of, HistoriesPostInOrder, NothingMatchesAtTheEnd}
 use Rattle.history_laws.proofs.Counts.{nth_grows, nth_more, posted_at_stop}
 
 -- a move that posts nothing
@@ -66,7 +68,8 @@ call_posts p u k n def o is_def here = ap (posted_in u k) is_def ∙ ap (posted_
 -- the cells that a call sends are those of the copy of its task
 call_sends : (p : Program) (s : State) (u k : ℕ) (def : TaskDef) (was : Task) → slice_get p.tasks.items u ≡ Some def → slice_get s.tasks u ≡ Some was
     → cells_at_call k (slice_get p.tasks.items u) (slice_get s.tasks u) ≡ packed def k was.copy
-call_sends p s u k def was is_def is_task = ap (λ (o : Option TaskDef). cells_at_call k o (slice_get s.tasks u)) is_def ∙ ap (cells_at_call k (Some def)) is_task
+call_sends p s u k def was is_def is_task =
+    ap (λ (o : Option TaskDef). cells_at_call k o (slice_get s.tasks u)) is_def ∙ ap (cells_at_call k (Some def)) is_task
 
 -- the row of a posting
 post_row : (p : Program) (s : State) (u : ℕ) (def : TaskDef) (was : Task) (k : ℕ) (x : Op) (blocking : Bool) → slice_get p.tasks.items u ≡ Some def

@@ -5,6 +5,7 @@ ghost use Rattle.history_laws.specs.Postings.{HistoriesPostInOrder, NothingMatch
 ghost use Rattle.history_laws.specs.Order.{EachMatchIsPosted, HistoriesKeepMessages, HistoriesKeepReceives};
 ghost use Rattle.history_laws.specs.Notices.{MovesNoticeCompletions, WellFormedWaitsNamePosted, NoticesStandOnce};
 ghost use Rattle.history_laws.specs.Starts.{TasksStartInOrder};
+ghost use Rattle.history_laws.specs.Telling.{MovesTellOnce, RequestsAreToldAtMostOnce, OpenedAreToldOnce, OwedUntilTold};
 
 use match_engine::{
     matches_are_posted, messages_keep_order, nothing_that_matches_is_left as engine_law,
@@ -59,6 +60,26 @@ pub fn moves_notice_completions()
 /// After a run each notice that stands is of a complete request, and stands once (TAMPI, completion by polling).
 pub fn notices_stand_once()
     ensures { NoticesStandOnce }
+{}
+
+/// A move of a task after a run turns the completion of a request that is expected into its notice: as often as before a task is still to be told of
+/// it. Of a request that nobody expects, or that was complete, no notice comes or goes (TAMPI, completion by polling). The program's waits name posted
+/// requests.
+pub fn moves_tell_once()
+    ensures { MovesTellOnce }
+{}
+
+/// Over a run a poll takes the notice of each request at most once. Each request that was opened is told exactly once: by one poll, or else its notice
+/// stands once, or else it is incomplete (TAMPI, completion by polling). The program's waits name posted requests.
+pub fn opened_are_told_once()
+    ensures most { RequestsAreToldAtMostOnce }
+    ensures opened { OpenedAreToldOnce }
+{}
+
+/// Of what a task is still to be told, it is so until a poll takes the notice, and no longer (TAMPI, completion by polling). The program's waits name
+/// posted requests.
+pub fn owed_until_told()
+    ensures { OwedUntilTold }
 {}
 
 /// In a program that may be run each wait names only requests that its body posts before it (MPI 4.0, 3.7.3).

@@ -1,0 +1,4 @@
+pub mod Bodies
+pub mod Tidying
+pub mod OpenedOnce
+pub mod Telling
