@@ -1,5 +1,6 @@
 -- What a move of a task changes, and that the state stays tidy.
-use Rattle.std.proofs.Common.{◌≡◌, ◌≢◌, ℕ, zero, suc, ◌+◌, ◌<◌, ◌≤◌, Bool, true, ◌⊎◌, List, [], length, map, slice_get, slice_set, Some, refl, sym, ap, ◌∙◌, inl, inr, arith}
+use Rattle.std.proofs.Common.{◌≡◌, ◌≢◌, ℕ, zero, suc, ◌+◌, ◌<◌, ◌≤◌, Bool, true, ◌⊎◌, List, length, map, slice_get, slice_set, Some, refl, sym, ap, ◌∙◌}
+use Rattle.std.proofs.Common.{inl, inr, arith}
 use Rattle.std.proofs.Math.ListN.{length-set}
 use Rattle.std.proofs.lemmas.List.{map-set}
 use Rattle.std.proofs.lemmas.Option.{slice_get_within}
@@ -16,7 +17,7 @@ use Rattle.rt_base.specs.MayMove.{MayMove}
 use Rattle.task_machine.specs.Machine.{move}
 use Rattle.task_machine.specs.Legal.{caller}
 use Rattle.task_machine.specs.Course.{moves_left, posted_by_phase}
-use Rattle.core_book.specs.Kept.{IsInBlocking, IsTidy, postings_left, to_tell}
+use Rattle.core_book.specs.Kept.{IsInBlocking, FitsProgram, postings_left, to_tell}
 use Rattle.task_machine.proofs.Lists.{slice_get-set_same, slice_get-set_other}
 
 -- what a move of task t changes, and what it keeps: all that a book needs to know of it
@@ -28,7 +29,6 @@ pub record Changes (p : Program) (s : State) (t : ℕ) (def : TaskDef) (was now 
   pub moved : move p s t ≡ record { state = new; entry = e }
   pub tasks : new.tasks ≡ slice_set s.tasks t now
   pub cells : length new.memory ≡ memory_len p
-  pub unbound : (now.named ≡ []) × (now.bound ≡ [])
   pub started : now.phase ≢ phase.Waiting
   pub fewer : moves_left (length def.body.items) now.phase + 1 ≤ moves_left (length def.body.items) was.phase
   pub later : posted_by_phase def was.phase ≤ posted_by_phase def now.phase
@@ -64,7 +64,7 @@ task_after tasks t u was now task here there = elim (either_place u t) [
 ]
 
 -- what the moving task has posted
-same_task : (p : Program) (s : State) (t u n : ℕ) (def d : TaskDef) (was now task : Task) (new : State) (e : Entry) → IsTidy p s
+same_task : (p : Program) (s : State) (t u n : ℕ) (def d : TaskDef) (was now task : Task) (new : State) (e : Entry) → FitsProgram p s
     → Changes p s t def was now new e
     → slice_get p.tasks.items u ≡ Some d → u ≡ t → task ≡ now
     → (is_posted s.exchange (request u n) ≡ true) ⊎ ((u ≡ t) × (n < posted_by_phase def now.phase))
@@ -77,7 +77,7 @@ same_task p s t u n def d was now task new e kept c is_def same mine was_posted 
     ])
 
 -- what is posted after a move is what the tasks have posted
-posted_after : (p : Program) (s : State) (t u n : ℕ) (def d : TaskDef) (was now task : Task) (new : State) (e : Entry) → IsTidy p s
+posted_after : (p : Program) (s : State) (t u n : ℕ) (def d : TaskDef) (was now task : Task) (new : State) (e : Entry) → FitsProgram p s
     → Changes p s t def was now new e
     → slice_get p.tasks.items u ≡ Some d
     → ((u ≡ t) × (task ≡ now)) ⊎ ((u ≢ t) × (slice_get s.tasks u ≡ Some task))
@@ -91,15 +91,11 @@ posted_after p s t u n def d was now task new e kept c is_def who was_posted = e
   ]
 ]
 
-pub tidy_after : (p : Program) (s : State) (t : ℕ) (def : TaskDef) (was now : Task) (new : State) (e : Entry) → IsTidy p s → Changes p s t def was now new e
-    → IsTidy p new
-tidy_after p s t def was now new e kept c = record {
+pub fits_after : (p : Program) (s : State) (t : ℕ) (def : TaskDef) (was now : Task) (new : State) (e : Entry) → FitsProgram p s
+    → Changes p s t def was now new e → FitsProgram p new
+fits_after p s t def was now new e kept c = record {
   counted = ap (λ (xs : List Task). length xs) c.tasks ∙ length-set s.tasks t now ∙ kept.counted;
   cells = c.cells;
-  unbound = λ u task here. elim (task_after s.tasks t u was now task c.is_task (sym (ap (λ (xs : List Task). slice_get xs u) c.tasks) ∙ here)) [
-    | inl mine ↦ (ap (λ (x : Task). x.named) mine.1 ∙ c.unbound.0, ap (λ (x : Task). x.bound) mine.1 ∙ c.unbound.1)
-    | inr other ↦ kept.unbound u task other.1
-  ];
   blocking = λ u d task is_def here. elim (task_after s.tasks t u was now task c.is_task (sym (ap (λ (xs : List Task). slice_get xs u) c.tasks) ∙ here)) [
     | inl mine ↦
         let one : d ≡ def = some_same (sym is_def ∙ ap (slice_get p.tasks.items) mine.0 ∙ c.is_def) in

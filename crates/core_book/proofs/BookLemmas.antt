@@ -1,5 +1,6 @@
 -- A new book, and a book that hands out a task.
-use Rattle.std.proofs.Common.{◌≡◌, ℕ, zero, suc, ◌+◌, ◌^◌, ◌<◌, ◌≤◌, Bool, true, false, List, [], ◌∷◌, length, map, slice_get, slice_set, Some, None, Option, IfSome, IfNone, refl, sym, ap, ◌∙◌, subst, arith}
+use Rattle.std.proofs.Common.{◌≡◌, ℕ, zero, suc, ◌+◌, ◌^◌, ◌<◌, ◌≤◌, Bool, true, false, List, [], ◌∷◌, length, map, slice_get, slice_set, Some, None, Option}
+use Rattle.std.proofs.Common.{IfSome, IfNone, refl, sym, ap, ◌∙◌, subst, arith}
 use Rattle.std.specs.Prelude.{pos, replicate}
 use Rattle.rt_base.specs.declared.data.TaskNo.{TaskNo}
 use Rattle.rt_base.specs.declared.data.ReqNo.{ReqNo}
@@ -19,7 +20,7 @@ use Rattle.task_machine.specs.Course.{most_moves}
 use Rattle.task_machine.specs.Owed.{last_opened}
 use Rattle.core_book.specs.Ledger.{Ledger, IsReady}
 use Rattle.core_book.specs.Kept.{Shelf, HasRooms, KeepsState, entries_left, most_postings, opens, postings_left, state_now, tells, to_tell}
-use Rattle.core_book.proofs.Opening.{opening_tidy, in_replicate, map-replicate}
+use Rattle.core_book.proofs.Opening.{opening_fits, in_replicate, map-replicate}
 use Rattle.core_book.proofs.Rooms.{entries_first, few_told_at_first, postings_first, room_first, told_first}
 use Rattle.core_book.proofs.Moved.{ledger_of}
 use Rattle.core_book.proofs.Questions.{gone_of}
@@ -76,7 +77,7 @@ new_book shelf n =
       gone_is = ap (λ (r : Readiness). r.gone) n.fresh
           ∙ ap (λ (r : List Bool). record { released = r }) (sym (map-replicate (λ (z : Task). is_released z.phase) tasks waiting_task))
           ∙ ap (λ (z : State). let_go z.tasks) (sym start);
-      tidy = rw start (opening_tidy p);
+      fits = rw start (opening_fits p);
       begun = λ t at here started. absurd (started (in_replicate tasks phase.Waiting t at (sym (ap (λ (z : List Phase). slice_get z t) n.phases_are) ∙ here)));
       of_program = ap (λ (r : Readiness). r.program) n.fresh;
       whole = n.whole;
@@ -133,7 +134,7 @@ ready_book shelf ready waits found k programs gone whole more same = record {
   notices_are = k.notices_are;
   opened_are = k.opened_are;
   gone_is = gone ∙ k.gone_is;
-  tidy = k.tidy;
+  fits = k.fits;
   begun = λ u at here started. still_handed_out shelf.ready ready found u more same (k.begun u at here started);
   of_program = programs ∙ k.of_program;
   whole = whole;

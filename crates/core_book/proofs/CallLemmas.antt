@@ -1,10 +1,12 @@
 -- What the call of a posting owes, in terms of a book's fields.
-use Rattle.std.proofs.Common.{◌≡◌, ℕ, zero, suc, ◌+◌, ◌<◌, ◌≤◌, ◌⊎◌, Bool, true, false, not, ◌&&◌, cond, List, [], ◌∷◌, ◌++◌, length, take, drop, filter, slice_get, slice_set, Some, None, Option, refl, sym, ap, ◌∙◌, subst, inl, inr, arith}
-use Rattle.std.specs.Prelude.{ℤ, option_map, option_and_then, count_by, IfSome, ◌==◌}
+use Rattle.std.proofs.Common.{◌≡◌, ℕ, zero, suc, ◌+◌, ◌<◌, ◌≤◌, ◌⊎◌, Bool, true, false, not, ◌&&◌, ◌||◌, cond, List, [], ◌∷◌, ◌++◌, length, take, drop, filter}
+use Rattle.std.proofs.Common.{slice_get, slice_set, Some, None, Option, refl, sym, ap, ◌∙◌, subst, inl, inr, arith}
+use Rattle.std.specs.Prelude.{ℤ, option_and_then, count_by, IfSome, ◌==◌}
 use Rattle.std.specs.List.{list_any}
 use Rattle.std.proofs.lemmas.Option.{slice_get_within, get_or_from_slice_get}
 use Rattle.std.proofs.lemmas.List.{length-take, length-drop}
 use Rattle.std.proofs.lemmas.List.Sums.{sum_by-cons}
+use Rattle.std.proofs.lemmas.List.Folds.{list_any-append}
 use Rattle.rt_base.specs.declared.data.ReqNo.{ReqNo}
 use Rattle.rt_base.specs.declared.data.Span.{Span}
 use Rattle.rt_base.specs.declared.data.Peer.{Peer}
@@ -33,7 +35,7 @@ use Rattle.task_local.specs.Local.{advanced, stop, run_front, stop_at}
 use Rattle.task_local.specs.Packed.{packed, packed_by}
 use Rattle.task_local.specs.StandsFor.{Record, StandsFor, StandsAs}
 use Rattle.rt_base.specs.declared.data.How.TheVariants as how
-use Rattle.task_machine.specs.Machine.{Moved, move, post_move, or_none, posted_task, noticed, awaited_at, is_expected, open_count, phase_at, bound_at}
+use Rattle.task_machine.specs.Machine.{Moved, move, post_move, posted_task, noticed, awaited_at, is_expected, open_count, phase_at}
 use Rattle.task_machine.specs.Course.{posted_by_phase}
 use Rattle.std.proofs.lemmas.Bool.{false_from_ne_true}
 use Rattle.task_local.proofs.Places.{declared_fits}
@@ -45,8 +47,9 @@ use Rattle.task_machine.specs.Owed.{opened, opened_by, opened_by_posting}
 use Rattle.task_machine.proofs.Lists.{slice_get-map}
 use Rattle.task_machine.proofs.Items.{same_some}
 use Rattle.task_machine.proofs.Stops.{drop_at}
-use Rattle.core_book.specs.Ledger.{Ledger, LeavesPending, record_at}
-use Rattle.core_book.specs.Kept.{Shelf, KeepsState, PostsAs, opens, state_now, awaits_now, noticed_now}
+use Rattle.wait_steps.specs.MarkedRows.{is_marked}
+use Rattle.core_book.specs.Ledger.{Ledger, LeavesPending, bound_in, record_at}
+use Rattle.core_book.specs.Kept.{Shelf, KeepsState, PostsAs, opens, state_now, completed_now, expects_now}
 use Rattle.core_book.proofs.After.{Changes}
 use Rattle.core_book.proofs.Tells.{posted_within}
 use Rattle.core_book.proofs.Changes.{nth_at-suc, post_changes}
@@ -284,7 +287,7 @@ pub call_is_new : (shelf : Shelf) (held : Record) (t k n : ℕ) (def : TaskDef) 
     → is_posted shelf.engine.exchange (record { task = task_no t; nth = n }) ≡ false
 call_is_new shelf held t k n def posting kept c nth =
     false_from_ne_true (is_posted shelf.engine.exchange (request t n)) (λ posted.
-    let already = kept.tidy.posted t n def c.here.was c.here.is_def c.here.is_task
+    let already = kept.fits.posted t n def c.here.was c.here.is_def c.here.is_task
     (subst (λ (e : Exchange). is_posted e (request t n) ≡ true) kept.exchange_is posted) in
     let count : posted_by_phase def c.here.was.phase ≡ nth_at def k = ap (posted_by_phase def) c.at in
     absurd (omega arith))
@@ -301,38 +304,33 @@ call_follows shelf held t k def posting next c is =
     (subst (λ (d : TaskDef). GoesTo d (phase.At k) next) (sym c.here.held_def)
     (subst IsCall (sym c.posts.is) refl, either_next (blocks posting.how) def k next is))
 
-none_bound_of : (found : Option Task) → ((task : Task) → found ≡ Some task → task.bound ≡ []) → or_none (option_map (λ (z : Task). z.bound) found) ≡ []
-none_bound_of None unbound = refl
-none_bound_of (Some task) unbound = unbound task refl
-
-none_bound : (s : State) (t : ℕ) → ((u : ℕ) (task : Task) → slice_get s.tasks u ≡ Some task → (task.named ≡ []) × (task.bound ≡ []))
-    → or_none (bound_at s.tasks t) ≡ []
-none_bound s t unbound = none_bound_of (slice_get s.tasks t) (λ task here. (unbound t task here).1)
-
 one_counted : (b : Bool) → count_by (λ (c : Bool). not c) (b ∷ []) ≡ cond b 0 1
 one_counted true = refl
 one_counted false = refl
 
--- what the state says of the partner, the book reads from its own lists
-expected_now : (p : Program) (s : State) (phs : List Phase) (other : ReqNo)
-    → ((t : ℕ) (task : Task) → slice_get s.tasks t ≡ Some task → (task.named ≡ []) × (task.bound ≡ [])) → phs ≡ phases_of s.tasks
-    → is_expected p s.tasks other ≡ awaits_now p phs other
-unfolding is_expected
-expected_now p s phs other unbound are =
-    ap (λ (reqs : List ReqNo). list_any (same_request other) (reqs ++ awaited_at other.task.0 (slice_get p.tasks.items other.task.0)
-    (phase_at s.tasks other.task.0)))
-    (none_bound s other.task.0 unbound)
-    ∙ ap (λ (q : Option Phase). list_any (same_request other) (awaited_at other.task.0 (slice_get p.tasks.items other.task.0) q))
-    (sym (ap (λ (z : List Phase). slice_get z other.task.0) are ∙ slice_get-map (λ (z : Task). z.phase) s.tasks other.task.0))
+-- the marks say what is bound
+abbrev pub MarksBound : Program → State → List (List Bool) → Type 0
+MarksBound p s marks = (req : ReqNo) → is_marked marks req ≡ list_any (same_request req) (bound_in s req.task.0)
 
-told_now_is : (p : Program) (s : State) (phs : List Phase) (found : Option ReqNo)
-    → ((t : ℕ) (task : Task) → slice_get s.tasks t ≡ Some task → (task.named ≡ []) × (task.bound ≡ [])) → phs ≡ phases_of s.tasks
+-- what the state says of the partner, the book reads from its own lists
+expected_now : (p : Program) (s : State) (phs : List Phase) (marks : List (List Bool)) (other : ReqNo) → MarksBound p s marks → phs ≡ phases_of s.tasks
+    → is_expected p s.tasks other ≡ expects_now p phs marks other
+unfolding is_expected
+expected_now p s phs marks other marked are =
+    let u : ℕ = other.task.0 in
+    let def : Option TaskDef = slice_get p.tasks.items u in
+    list_any-append (same_request other) (bound_in s u) (awaited_at u def (phase_at s.tasks u))
+    ∙ ap (λ (b : Bool). b || list_any (same_request other) (awaited_at u def (phase_at s.tasks u))) (sym (marked other))
+    ∙ ap (λ (q : Option Phase). is_marked marks other || list_any (same_request other) (awaited_at u def q))
+    (sym (ap (λ (z : List Phase). slice_get z u) are ∙ slice_get-map (λ (z : Task). z.phase) s.tasks u))
+
+told_now_is : (p : Program) (s : State) (phs : List Phase) (marks : List (List Bool)) (found : Option ReqNo) → MarksBound p s marks → phs ≡ phases_of s.tasks
     → IfSome found (λ other. is_complete p s.exchange other ≡ completes_alone p.eager (posting_of p other))
-    → noticed_now p phs found ≡ noticed p s.tasks s.exchange found
-told_now_is p s phs None unbound are before = refl
-told_now_is p s phs (Some other) unbound are before =
-    ap (λ (b : Bool). cond (not b && awaits_now p phs other) (other ∷ []) []) (sym before)
-    ∙ ap (λ (b : Bool). cond (not (is_complete p s.exchange other) && b) (other ∷ []) []) (sym (expected_now p s phs other unbound are))
+    → completed_now p (expects_now p phs marks) found ≡ noticed p s.tasks s.exchange found
+told_now_is p s phs marks None marked are before = refl
+told_now_is p s phs marks (Some other) marked are before =
+    ap (λ (b : Bool). cond (not b && expects_now p phs marks other) (other ∷ []) []) (sym before)
+    ∙ ap (λ (b : Bool). cond (not (is_complete p s.exchange other) && b) (other ∷ []) []) (sym (expected_now p s phs marks other marked are))
 
 -- what the move changes
 pub call_changed : (shelf : Shelf) (held : Record) (t k : ℕ) (def : TaskDef) (posting : Posting) → KeepsState shelf → (c : Calls shelf held t k def posting)
@@ -341,7 +339,7 @@ pub call_changed : (shelf : Shelf) (held : Record) (t k : ℕ) (def : TaskDef) (
     (post_move shelf.program (state_now shelf) t def c.here.was k (blocks posting.how)).entry
 call_changed shelf held t k def posting kept c =
     post_changes shelf.program (state_now shelf) t def c.here.was k posting c.here.is_def c.here.is_task c.at c.posts
-    (call_may shelf held t k def posting c) kept.tidy
+    (call_may shelf held t k def posting c) kept.fits
 
 posted_phase : (def : TaskDef) (k : ℕ) (blocking : Bool) (was : Task) → (posted_task def k blocking was).phase ≡ cond blocking (phase.In k) (stop def (k + 1))
 posted_phase def k true was = refl
@@ -350,6 +348,11 @@ posted_phase def k false was = refl
 posted_held : (def : TaskDef) (k : ℕ) (blocking : Bool) (was : Task) → is_released (posted_task def k blocking was).phase ≡ false
 posted_held def k true was = refl
 posted_held def k false was = stop_is_held def (k + 1)
+
+-- a posting binds nothing
+pub posted_bound : (def : TaskDef) (k : ℕ) (blocking : Bool) (was : Task) → (posted_task def k blocking was).bound ≡ was.bound
+posted_bound def k true was = refl
+posted_bound def k false was = refl
 
 open_one : (p : Program) (e : Exchange) (req : ReqNo) → open_count p e (req ∷ []) ≡ cond (is_complete p e req) 0 1
 unfolding open_count
@@ -422,10 +425,11 @@ call_opens shelf held t k n count number def posting cells engine found listed k
 pub call_notices : (shelf : Shelf) (held : Record) (t k n count : ℕ) (def : TaskDef) (posting : Posting) (cells : List ℤ) (engine : Switch)
     (found : Option ReqNo)
     (prog : Program) (phases : List Phase) (notices : List ReqNo) → KeepsState shelf
+    → MarksBound shelf.program (state_now shelf) shelf.marks
     → (c : Calls shelf held t k def posting) → Answered shelf held t k n count def posting cells engine found → prog ≡ shelf.program → phases ≡ shelf.phases
-    → notices ≡ shelf.notices ++ noticed_now prog phases found → notices ≡
+    → notices ≡ shelf.notices ++ completed_now prog (expects_now prog phases shelf.marks) found → notices ≡
     (post_move shelf.program (state_now shelf) t def c.here.was k (blocks posting.how)).state.notices
-call_notices shelf held t k n count def posting cells engine found prog phases notices kept c a same seen told =
+call_notices shelf held t k n count def posting cells engine found prog phases notices kept marked c a same seen told =
     let p : Program = shelf.program in
     let s : State = state_now shelf in
     let of_state : found ≡ partner p s.exchange (request t (nth_at def k)) (packed def k c.here.was.copy) =
@@ -437,16 +441,18 @@ call_notices shelf held t k n count def posting cells engine found prog phases n
     subst (λ (e : Exchange). IfSome found (λ other. is_complete p e other ≡ completes_alone p.eager (posting_of p other))) kept.exchange_is
     (subst (λ (q : Program). IfSome found (λ other. is_complete q shelf.engine.exchange other ≡ completes_alone q.eager
     (posting_of q other))) kept.engine_of a.before) in
-    told ∙ ap (λ (z : List ReqNo). z ++ noticed_now prog phases found) kept.notices_are ∙ ap (λ (q : Program). s.notices ++ noticed_now q phases found) same
-    ∙ ap (λ (z : List Phase). s.notices ++ noticed_now p z found) seen
-    ∙ ap (λ (z : List ReqNo). s.notices ++ z) (told_now_is p s shelf.phases found kept.tidy.unbound kept.phases_are was_open)
+    let told_by : Program → List Phase → List ReqNo = λ q z. completed_now q (expects_now q z shelf.marks) found in
+    told ∙ ap (λ (z : List ReqNo). z ++ told_by prog phases) kept.notices_are ∙ ap (λ (q : Program). s.notices ++ told_by q phases) same
+    ∙ ap (λ (z : List Phase). s.notices ++ told_by p z) seen
+    ∙ ap (λ (z : List ReqNo). s.notices ++ z) (told_now_is p s shelf.phases shelf.marks found marked kept.phases_are was_open)
     ∙ ap (λ (o : Option ReqNo). s.notices ++ noticed p s.tasks s.exchange o) of_state
 
 pub call_moved : (shelf : Shelf) (held : Record) (t k n count : ℕ) (def : TaskDef) (posting : Posting) (cells : List ℤ) (engine : Switch) (found : Option ReqNo)
-    (prog : Program) (phases : List Phase) (at : Phase) (notices : List ReqNo) (entries : List Entry) (waits posted : List ℕ) (listed : List ReqNo)
-    (entry_places notice_places opened_places : ℕ)
-    → KeepsState shelf → (c : Calls shelf held t k def posting) → Answered shelf held t k n count def posting cells engine found
-    → prog ≡ shelf.program → phases ≡ shelf.phases → notices ≡ shelf.notices ++ noticed_now prog phases found
+    (prog : Program) (phases : List Phase) (at : Phase) (notices : List ReqNo) (entries : List Entry) (waits posted incomplete : List ℕ)
+    (listed : List ReqNo) (entry_places notice_places opened_places : ℕ)
+    → KeepsState shelf → MarksBound shelf.program (state_now shelf) shelf.marks → (c : Calls shelf held t k def posting)
+    → Answered shelf held t k n count def posting cells engine found
+    → prog ≡ shelf.program → phases ≡ shelf.phases → notices ≡ shelf.notices ++ completed_now prog (expects_now prog phases shelf.marks) found
     → at ≡ cond (blocks posting.how) (phase.In k) (stop def (k + 1)) → entries ≡ shelf.entries ++ entry.Call (task_no t) k count ∷ []
     → listed ≡ opened shelf.program (state_now shelf) t
     → shelf.entry_places ≤ entry_places → shelf.notice_places ≤ notice_places → shelf.opened_places ≤ opened_places
@@ -457,14 +463,15 @@ pub call_moved : (shelf : Shelf) (held : Record) (t k n count : ℕ) (def : Task
       entries = entries;
       waits = waits;
       posted = posted;
+      incomplete = incomplete;
       opened = listed;
       entry_places = entry_places;
       notice_places = notice_places;
       opened_places = opened_places;
     }) t (posted_task def k (blocks posting.how) c.here.was) (post_move shelf.program (state_now shelf) t def c.here.was k (blocks posting.how)).state
     (post_move shelf.program (state_now shelf) t def c.here.was k (blocks posting.how)).entry
-call_moved shelf held t k n count def posting cells engine found prog phases at notices entries waits posted listed entry_places notice_places
-    opened_places kept c a same seen told stops grown opens more more' more'' =
+call_moved shelf held t k n count def posting cells engine found prog phases at notices entries waits posted incomplete listed entry_places notice_places
+    opened_places kept marked c a same seen told stops grown opens more more' more'' =
     record {
       program = refl;
       workers = refl;
@@ -477,7 +484,7 @@ call_moved shelf held t k n count def posting cells engine found prog phases at 
       exchange = call_exchange shelf held t k n count def posting cells engine found kept c a;
       phases = ap (slice_set shelf.phases t) (stops ∙ sym (posted_phase def k (blocks posting.how) c.here.was));
       memory = kept.memory_is;
-      notices = call_notices shelf held t k n count def posting cells engine found prog phases notices kept c a same seen told;
+      notices = call_notices shelf held t k n count def posting cells engine found prog phases notices kept marked c a same seen told;
       entries = grown ∙ ap (λ (e : Entry). shelf.entries ++ e ∷ []) (call_entry shelf held t k n count def posting cells engine found kept c a);
       statuses = kept.legal.told;
       opened = opens;

@@ -1,5 +1,6 @@
 -- What each kind of move of a task changes.
-use Rattle.std.proofs.Common.{◌≡◌, ◌≢◌, ℕ, ◌+◌, ◌-◌, ◌*◌, ◌<◌, ◌≤◌, Bool, true, false, ◌&&◌, ◌||◌, not, ◌⊎◌, List, [], ◌∷◌, ◌++◌, length, drop, slice_get, slice_set, Some, None, Option, refl, sym, ap, ◌∙◌, inl, inr, cond, subst, arith}
+use Rattle.std.proofs.Common.{◌≡◌, ◌≢◌, ℕ, ◌+◌, ◌-◌, ◌*◌, ◌<◌, ◌≤◌, Bool, true, false, ◌&&◌, ◌||◌, not, ◌⊎◌, List, [], ◌∷◌, ◌++◌, length, drop, slice_get}
+use Rattle.std.proofs.Common.{Some, None, Option, refl, sym, ap, ◌∙◌, inl, inr, cond, subst, arith}
 use Rattle.std.specs.Prelude.{ℤ, ◌==◌}
 use Rattle.std.specs.List.{list_any}
 use Rattle.std.proofs.lemmas.List.{length-append, length-drop}
@@ -15,28 +16,27 @@ use Rattle.rt_base.specs.declared.data.Phase.TheVariants as phase
 use Rattle.rt_base.specs.declared.data.Entry.TheVariants as entry
 use Rattle.rt_base.specs.declared.data.TaskDef.{TaskDef}
 use Rattle.rt_base.specs.declared.data.Program.{Program}
-use Rattle.rt_base.specs.Layout.{memory_len}
 use Rattle.rt_base.specs.Operations.{task_no, request, blocks, is_posting, named_requests, nth_at, postings}
 use Rattle.rt_base.specs.Matching.{same_request}
 use Rattle.rt_base.specs.Exchange.{Exchange, post, partner}
 use Rattle.rt_base.specs.Completion.{is_posted, is_complete}
 use Rattle.rt_base.specs.State.{State, Task}
 use Rattle.rt_base.specs.MayMove.{MayMove}
-use Rattle.task_local.specs.Regions.{saved, loaded}
+use Rattle.task_local.specs.Regions.{loaded}
 use Rattle.task_local.specs.Local.{advanced, stop}
 use Rattle.task_local.specs.Packed.{packed}
 use Rattle.task_local.specs.Waits.{told, taken}
-use Rattle.task_machine.specs.Machine.{start_move, return_move, release_move, leave_move, post_move, wait_move, call_move, posted_task, noticed, is_expected}
+use Rattle.task_machine.specs.Machine.{start_move, return_move, leave_move, post_move, wait_move, call_move, posted_task, noticed, is_expected}
 use Rattle.task_machine.specs.Course.{moves_left, posted_by_phase}
 use Rattle.task_machine.specs.Laws.{is_blocking_call}
 use Rattle.core_book.specs.declared.posting.Posting.{Posting}
-use Rattle.core_book.specs.Kept.{IsInBlocking, IsTidy, PostsAs, to_tell}
+use Rattle.core_book.specs.Kept.{IsInBlocking, FitsProgram, PostsAs, to_tell}
 use Rattle.task_machine.proofs.Rows.{move-row}
 use Rattle.task_machine.proofs.Stops.{posted_by-stop, left_at_stop, stop_started}
 use Rattle.core_book.proofs.After.{Changes}
 use Rattle.core_book.proofs.Tells.{tell_by_stop, tell_next, stop_in_none, posted_within, blocking_there, told_few}
 
-stop_is_started : (def : TaskDef) (k : ℕ) → stop def k ≢ phase.Waiting
+pub stop_is_started : (def : TaskDef) (k : ℕ) → stop def k ≢ phase.Waiting
 unfolding stop
 stop_is_started def k = stop_started k (drop k def.body.items)
 
@@ -52,12 +52,12 @@ unfolding stop
 left_by_stop def k within = left_at_stop (length def.body.items) k (drop k def.body.items) (rest_counted def.body.items k within)
 
 -- a move that posts nothing leaves no more to post than before
-none_noticed : (places notices was now : ℕ) → was ≤ now → notices + (places - now) ≤ notices + (places - was)
+pub none_noticed : (places notices was now : ℕ) → was ≤ now → notices + (places - now) ≤ notices + (places - was)
 none_noticed places notices was now later = omega arith
 
 pub start_changes : (p : Program) (s : State) (t : ℕ) (def : TaskDef) (was : Task) → slice_get p.tasks.items t ≡ Some def → slice_get s.tasks t ≡ Some was
     → was.phase ≡ phase.Waiting
-    → MayMove p s t → IsTidy p s
+    → MayMove p s t → FitsProgram p s
     → Changes p s t def was (record was { phase = stop def 0; copy = advanced def 0 (loaded p def s.memory) }) (start_move p s t def was).state
     (entry.Start (task_no t))
 start_changes p s t def was is_def is_task waiting may kept = record {
@@ -68,7 +68,6 @@ start_changes p s t def was is_def is_task waiting may kept = record {
   moved = move-row p s t def was phase.Waiting is_def is_task waiting;
   tasks = refl;
   cells = kept.cells;
-  unbound = kept.unbound t was is_task;
   started = stop_is_started def 0;
   fewer = rw waiting (fewer_at_start (length def.body.items) _ (left_by_stop def 0 (omega arith)));
   later = rw waiting (omega arith);
@@ -80,7 +79,7 @@ start_changes p s t def was is_def is_task waiting may kept = record {
 
 pub return_changes : (p : Program) (s : State) (t : ℕ) (def : TaskDef) (was : Task) → slice_get p.tasks.items t ≡ Some def → slice_get s.tasks t ≡ Some was
     → was.phase ≡ phase.Ended
-    → MayMove p s t → IsTidy p s
+    → MayMove p s t → FitsProgram p s
     → Changes p s t def was (record was { phase = phase.Returned }) (return_move s t was).state (entry.Return (task_no t))
 return_changes p s t def was is_def is_task ended may kept = record {
   is_def = is_def;
@@ -90,7 +89,6 @@ return_changes p s t def was is_def is_task ended may kept = record {
   moved = move-row p s t def was phase.Ended is_def is_task ended;
   tasks = refl;
   cells = kept.cells;
-  unbound = kept.unbound t was is_task;
   started = λ e. cc;
   fewer = rw ended (omega arith);
   later = rw ended (omega arith);
@@ -99,51 +97,6 @@ return_changes p s t def was is_def is_task ended may kept = record {
   told = rw ended (omega arith);
   noticed = rw ended (omega arith);
 }
-
-append_nil : {X : Type 0} (xs : List X) → xs ++ [] ≡ xs
-append_nil [] = refl
-append_nil (x ∷ xs) = ap (λ ys. x ∷ ys) (append_nil xs)
-
--- the release of a task that bound no request
-bare_release : (p : Program) (s : State) (t : ℕ) (def : TaskDef) (was : Task) → was.named ≡ []
-    → release_move p s t def was ≡ record {
-      state = record s {
-        memory = saved p def was.copy s.memory;
-        tasks = slice_set s.tasks t
-            (record was { phase = phase.Released });
-      };
-      entry = entry.Release (task_no t) (length s.statuses) 0;
-    }
-bare_release p s t def was nothing = rw (nothing, append_nil s.statuses) refl
-
-pub release_changes : (p : Program) (s : State) (t : ℕ) (def : TaskDef) (was : Task) → slice_get p.tasks.items t ≡ Some def → slice_get s.tasks t ≡ Some was
-    → was.phase ≡ phase.Returned
-    → MayMove p s t → IsTidy p s → length (saved p def was.copy s.memory) ≡ memory_len p
-    → Changes p s t def was (record was { phase = phase.Released }) (record s {
-      memory = saved p def was.copy s.memory;
-      tasks = slice_set s.tasks t
-          (record was { phase = phase.Released });
-    })
-    (entry.Release (task_no t) (length s.statuses) 0)
-release_changes p s t def was is_def is_task returned may kept cells =
-    let nothing = (kept.unbound t was is_task).0 in
-    record {
-      is_def = is_def;
-      is_task = is_task;
-      may = may;
-      who = refl;
-      moved = move-row p s t def was phase.Returned is_def is_task returned ∙ bare_release p s t def was nothing;
-      tasks = refl;
-      cells = cells;
-      unbound = kept.unbound t was is_task;
-      started = λ e. cc;
-      fewer = rw returned (omega arith);
-      later = rw returned (omega arith);
-      posted = λ u n posted. inl posted;
-      blocking = tt;
-      told = rw returned (omega arith);
-      noticed = rw returned (omega arith);
-    }
 
 or_false : (b : Bool) → (b || false) ≡ b
 or_false true = refl
@@ -190,7 +143,7 @@ record Posted (def : TaskDef) (k : ℕ) (was now : Task) : Type 0 where
   blocking : IsInBlocking def now.phase
   tells : to_tell def now.phase ≤ to_tell def (phase.In k)
 
-fewer_by_one : (n k left : ℕ) → k < n → left ≤ 2 * (n - (k + 1)) + 2 → left + 1 ≤ 2 * (n - k) + 2
+pub fewer_by_one : (n k left : ℕ) → k < n → left ≤ 2 * (n - (k + 1)) + 2 → left + 1 ≤ 2 * (n - k) + 2
 fewer_by_one n k left within few = omega arith
 
 posted_leaves : (def : TaskDef) (k : ℕ) (was : Task) (x : Op) (blocking : Bool) → slice_get def.body.items k ≡ Some x
@@ -235,7 +188,7 @@ by_this_posting t u n m false posted = inr (same_parts u t n m posted)
 
 pub post_changes : (p : Program) (s : State) (t : ℕ) (def : TaskDef) (was : Task) (k : ℕ) (posting : Posting)
     → slice_get p.tasks.items t ≡ Some def → slice_get s.tasks t ≡ Some was → was.phase ≡ phase.At k → PostsAs (slice_get def.body.items k) posting
-    → MayMove p s t → IsTidy p s
+    → MayMove p s t → FitsProgram p s
     → Changes p s t def was (posted_task def k (blocks posting.how) was) (post_move p s t def was k (blocks posting.how)).state
     (post_move p s t def was k (blocks posting.how)).entry
 post_changes p s t def was k posting is_def is_task at posts may kept =
@@ -253,7 +206,6 @@ post_changes p s t def was k posting is_def is_task at posts may kept =
       moved = move-row p s t def was (phase.At k) is_def is_task at ∙ ap (call_move p s t def was k) posts.is;
       tasks = refl;
       cells = kept.cells;
-      unbound = (leaves.named ∙ (kept.unbound t was is_task).0, leaves.bound ∙ (kept.unbound t was is_task).1);
       started = leaves.started;
       fewer = let left : moves_left (length def.body.items) was.phase ≡ 2 * (length def.body.items - k) + 2 = ap
           (moves_left (length def.body.items)) at in omega (arith, leaves.fewer);
@@ -274,7 +226,7 @@ post_changes p s t def was k posting is_def is_task at posts may kept =
 pub wait_changes : (p : Program) (s : State) (t : ℕ) (def : TaskDef) (was : Task) (k : ℕ) (handles : _) (status : Option Span)
     → slice_get p.tasks.items t ≡ Some def → slice_get s.tasks t ≡ Some was → was.phase ≡ phase.At k
     → slice_get def.body.items k ≡ Some (op.Await false handles status)
-    → MayMove p s t → IsTidy p s
+    → MayMove p s t → FitsProgram p s
     → Changes p s t def was (record was { phase = phase.In k }) (wait_move p s t was k (named_requests t handles.items)).state
     (wait_move p s t was k (named_requests t handles.items)).entry
 wait_changes p s t def was k handles status is_def is_task at waits may kept =
@@ -289,7 +241,6 @@ wait_changes p s t def was k handles status is_def is_task at waits may kept =
       moved = move-row p s t def was (phase.At k) is_def is_task at ∙ ap (call_move p s t def was k) waits;
       tasks = refl;
       cells = kept.cells;
-      unbound = kept.unbound t was is_task;
       started = λ e. cc;
       fewer = rw at (omega arith);
       later = omega arith;
@@ -301,7 +252,7 @@ wait_changes p s t def was k handles status is_def is_task at waits may kept =
 
 -- a task leaves the operation in which it is
 pub leave_changes : (p : Program) (s : State) (t : ℕ) (def : TaskDef) (was : Task) (k : ℕ)
-    → slice_get p.tasks.items t ≡ Some def → slice_get s.tasks t ≡ Some was → was.phase ≡ phase.In k → MayMove p s t → IsTidy p s
+    → slice_get p.tasks.items t ≡ Some def → slice_get s.tasks t ≡ Some was → was.phase ≡ phase.In k → MayMove p s t → FitsProgram p s
     → Changes p s t def was (record was { phase = stop def (k + 1); copy = advanced def (k + 1) (taken p s.exchange t def k was.copy) })
     (leave_move p s t def was k).state (leave_move p s t def was k).entry
 leave_changes p s t def was k is_def is_task in_k may kept =
@@ -319,7 +270,6 @@ leave_changes p s t def was k is_def is_task in_k may kept =
       moved = move-row p s t def was (phase.In k) is_def is_task in_k;
       tasks = refl;
       cells = kept.cells;
-      unbound = kept.unbound t was is_task;
       started = stop_is_started def (k + 1);
       fewer = rw in_k (fewer_after_leave (length def.body.items) k _ within (left_by_stop def (k + 1) (omega arith)));
       later = rw (in_k, posted_by-stop def (k + 1) (omega arith)) (omega arith);

@@ -1,343 +1,145 @@
 -- What the call of a posting owes of a book's counts.
-use Rattle.std.proofs.Common.{◌≡◌, ◌≢◌, ℕ, zero, suc, ◌+◌, ◌-◌, ◌<◌, ◌≤◌, Bool, true, false, not, ◌&&◌, ◌||◌, cond, List, [], ◌∷◌, ◌++◌, length, take, drop, get_or, slice_get, slice_set, Option, Some, None, refl, sym, ap, ◌∙◌, subst, inl, inr, arith}
-use Rattle.std.specs.Prelude.{ℤ, IfSome, count_by, AllPairs, ⊤}
+use Rattle.std.proofs.Common.{◌≡◌, ◌≢◌, ℕ, ◌+◌, ◌-◌, ◌<◌, Bool, true, false, not, cond, List, [], ◌∷◌, length, get_or, slice_get, slice_set, Option, Some}
+use Rattle.std.proofs.Common.{refl, sym, ap, ◌∙◌, subst, inl, inr, arith}
+use Rattle.std.specs.Prelude.{ℤ, IfSome, count_by}
 use Rattle.std.specs.List.{list_any}
-use Rattle.std.proofs.lemmas.Bool.{cases_Bool, cases_eq, false_from_ne_true}
+use Rattle.std.proofs.lemmas.Bool.{cases_Bool, false_from_ne_true}
 use Rattle.std.proofs.lemmas.List.{length-set}
-use Rattle.std.proofs.lemmas.List.Sums.{sum_by-cons}
-use Rattle.std.proofs.lemmas.Option.{slice_get_within, get_or_from_slice_get, slice_get-get_or}
+use Rattle.std.proofs.lemmas.Option.{slice_get_within, slice_get-get_or}
 use Rattle.rt_base.specs.declared.data.ReqNo.{ReqNo}
 use Rattle.rt_base.specs.declared.data.Phase.{Phase}
 use Rattle.rt_base.specs.declared.data.Phase.TheVariants as phase
-use Rattle.rt_base.specs.declared.data.Handle.{Handle}
-use Rattle.rt_base.specs.declared.data.Handle.TheVariants as handle
 use Rattle.rt_base.specs.declared.data.Op.{Op}
 use Rattle.rt_base.specs.declared.data.Op.TheVariants as op
 use Rattle.rt_base.specs.declared.data.TaskDef.{TaskDef}
 use Rattle.rt_base.specs.declared.data.Program.{Program}
-use Rattle.rt_base.specs.Operations.{request, blocks, nth_at, posting_of, named_requests, awaited_by, awaited}
+use Rattle.rt_base.specs.Operations.{request, blocks, nth_at, posting_of, postings, awaited_by}
 use Rattle.rt_base.specs.Matching.{same_request}
 use Rattle.rt_base.specs.Exchange.{Exchange, post, partner}
 use Rattle.rt_base.specs.Completion.{is_complete, completes_alone}
-use Rattle.rt_base.specs.WellFormed.{WellFormed, IsTask, NamesOther, Follows}
-use Rattle.rt_base.proofs.SameRequest.{one_request}
-use Rattle.rt_base.proofs.Postings.{only_partner}
+use Rattle.rt_base.specs.Precedes.{LetGo, GoneMore}
+use Rattle.rt_base.specs.State.{State, is_released, let_go}
 use Rattle.match_engine.specs.Switch.{Switch}
 use Rattle.task_local.specs.Local.{stop}
 use Rattle.task_local.specs.StandsFor.{Record}
+use Rattle.task_local.specs.Standing.{no_task}
 use Rattle.task_machine.specs.Machine.{awaited_at, open_count}
-use Rattle.task_machine.proofs.Lists.{slice_get-set_same, slice_get-set_other}
-use Rattle.rt_base.specs.Precedes.{LetGo, GoneMore}
-use Rattle.rt_base.specs.State.{is_released, let_go}
-use Rattle.task_machine.proofs.Items.{same_some}
+use Rattle.task_machine.proofs.Items.{either_place}
+use Rattle.tidy_runs.specs.Tidy.{AreOf, called}
+use Rattle.wait_steps.specs.MarkedRows.{is_marked}
 use Rattle.core_book.specs.declared.posting.Posting.{Posting}
-use Rattle.core_book.specs.Kept.{Shelf, IsBook, IsCounted, state_now, waits_at, awaits_now, noticed_now, one_less_for}
+use Rattle.core_book.specs.Ledger.{bound_in}
+use Rattle.core_book.specs.Kept.{Shelf, IsBook, IsBinding, IsCounted, KeepsState, state_now, waits_at, holds_now, expects_now, completed_now, one_less_for}
+use Rattle.core_book.specs.Kept.{told_requests}
+use Rattle.core_book.specs.declared.telling.Told.{Told}
+use Rattle.core_book.proofs.Told.{told_exists}
+use Rattle.core_book.proofs.BoundAfter.{BoundAsBefore, bound_at_task}
+use Rattle.core_book.proofs.TidyBook.{tidy_now}
 use Rattle.core_book.proofs.Held.{stop_is_held, phases_counted, read_at}
-use Rattle.core_book.proofs.Questions.{awaited_is}
-use Rattle.core_book.proofs.CallLemmas.{Calls, Answered}
+use Rattle.core_book.proofs.Questions.{awaited_is, standing}
+use Rattle.core_book.proofs.CallLemmas.{Calls, Answered, MarksBound}
 use Rattle.core_book.proofs.CountLemmas.{counted_after, stop_waits, held_one}
+use Rattle.core_book.proofs.OpenCounts.{none_of_others}
+use Rattle.core_book.proofs.Tallies.{Completes, IsListed, beside, heard, heard_own, heard_once, holds_is, tally_after, waits_parts}
 
--- each of these requests is one of task u
-abbrev OfTask : ℕ → List ReqNo → Type 0
-OfTask u [] = ⊤
-OfTask u (req ∷ reqs) = (req.task.0 ≡ u) × OfTask u reqs
+-- that for which another task waits
+heard_listed : (shelf : Shelf) (u : ℕ) (def : TaskDef) (at : Phase) (own : ReqNo) → KeepsState shelf
+    → MarksBound shelf.program (state_now shelf) shelf.marks → slice_get shelf.program.tasks.items u ≡ Some def → slice_get shelf.phases u ≡ Some at
+    → own.task.0 ≢ u
+    → IsListed u own (holds_now shelf.program shelf.phases shelf.marks)
+    (heard u (slice_get shelf.program.tasks.items u) at (bound_in (state_now shelf) u))
+heard_listed shelf u def at own kept marked is_def here apart =
+    let p : Program = shelf.program in
+    let s : State = state_now shelf in
+    let bound : List ReqNo = bound_in s u in
+    let there = standing shelf u at kept here in
+    let tidy = tidy_now shelf kept u def there.task is_def there.is_task in
+    let is_bound : bound ≡ there.task.bound = bound_at_task s u there.task there.is_task in
+    let awaits : awaited_at u (Some def) (Some there.task.phase) ≡ awaited_at u (slice_get p.tasks.items u) (Some at) =
+    ap (λ (q : Phase). awaited_at u (Some def) (Some q)) there.stands ∙ ap (λ (o : Option TaskDef). awaited_at u o (Some at)) (sym is_def) in
+    let own_task : AreOf u (heard u (slice_get p.tasks.items u) at bound) =
+    heard_own u (slice_get p.tasks.items u) at bound (subst (AreOf u) awaits tidy.awaited_own) (subst (AreOf u) (sym is_bound) tidy.bound.own) in
+    record {
+      own_task = own_task;
+      once = λ req. heard_once u (slice_get p.tasks.items u) at bound req
+          (let most = tidy.awaited_once req in let same = ap (λ (reqs : List ReqNo). count_by (same_request req) reqs) awaits in omega arith)
+          (let most = tidy.bound.once req in let same = ap (λ (reqs : List ReqNo). count_by (same_request req) reqs) is_bound in omega arith);
+      fresh = none_of_others u (heard u (slice_get p.tasks.items u) at bound) own own_task apart;
+      said_is = λ req same. holds_is p shelf.phases shelf.marks u at bound req here
+          (marked req ∙ ap (λ (i : ℕ). list_any (same_request req) (bound_in s i)) same) same;
+    }
 
-named_of_task : (u : ℕ) (handles : List Handle) → OfTask u (named_requests u handles)
-named_of_task u [] = tt
-named_of_task u (handle.Null ∷ handles) = named_of_task u handles
-named_of_task u (handle.Nth n ∷ handles) = (refl, named_of_task u handles)
+-- what the posting task has bound it has posted before
+fresh_own : (shelf : Shelf) (held : Record) (t k : ℕ) (def : TaskDef) (posting : Posting) → KeepsState shelf → (c : Calls shelf held t k def posting)
+    → list_any (same_request (request t (nth_at def k))) (bound_in (state_now shelf) t) ≡ false
+fresh_own shelf held t k def posting kept c =
+    let own : ReqNo = request t (nth_at def k) in
+    let tidy = tidy_now shelf kept t def c.here.was c.here.is_def c.here.is_task in
+    false_from_ne_true (list_any (same_request own) (bound_in (state_now shelf) t)) (λ is.
+    let below = tidy.bound.posted (nth_at def k)
+    (sym (ap (list_any (same_request own)) (bound_at_task (state_now shelf) t c.here.was c.here.is_task)) ∙ is) in
+    let front : postings (called def c.here.was.phase) ≡ nth_at def k = ap (λ (q : Phase). postings (called def q)) c.at in
+    absurd (omega arith))
 
-posted_of_task : (u n : ℕ) (blocking : Bool) → OfTask u (cond blocking (request u n ∷ []) [])
-posted_of_task u n true = (refl, tt)
-posted_of_task u n false = tt
+-- what a task has bound
+bound_listed : (shelf : Shelf) (held : Record) (t k u : ℕ) (def : TaskDef) (posting : Posting) → KeepsState shelf
+    → MarksBound shelf.program (state_now shelf) shelf.marks → Calls shelf held t k def posting → u < length shelf.program.tasks.items
+    → IsListed u (request t (nth_at def k)) (is_marked shelf.marks) (bound_in (state_now shelf) u)
+bound_listed shelf held t k u def posting kept marked c within =
+    let p : Program = shelf.program in
+    let s : State = state_now shelf in
+    let own : ReqNo = request t (nth_at def k) in
+    let bound : List ReqNo = bound_in s u in
+    let count = phases_counted shelf kept in
+    let here = slice_get-get_or shelf.phases u phase.Waiting (omega arith) in
+    let there = standing shelf u (get_or shelf.phases u phase.Waiting) kept here in
+    let tidy = tidy_now shelf kept u (get_or p.tasks.items u no_task) there.task (slice_get-get_or p.tasks.items u no_task within) there.is_task in
+    let is_bound : bound ≡ there.task.bound = bound_at_task s u there.task there.is_task in
+    let own_task : AreOf u bound = subst (AreOf u) (sym is_bound) tidy.bound.own in
+    record {
+      own_task = own_task;
+      once = λ req. let most = tidy.bound.once req in let same = ap (λ (reqs : List ReqNo). count_by (same_request req) reqs) is_bound in omega arith;
+      fresh = elim (either_place u t) [
+        | inl same ↦ ap (λ (i : ℕ). list_any (same_request own) (bound_in s i)) same ∙ fresh_own shelf held t k def posting kept c
+        | inr other ↦ none_of_others u bound own own_task (λ e. other (sym e))
+      ];
+      said_is = λ req same. marked req ∙ ap (λ (i : ℕ). list_any (same_request req) (bound_in s i)) same;
+    }
 
-by_of_task : (u n : ℕ) (o : Option Op) → OfTask u (awaited_by u n o)
-by_of_task u n None = tt
-by_of_task u n (Some (op.Compute kind dst left right value step)) = tt
-by_of_task u n (Some (op.Post how span peer tag comm status)) = posted_of_task u n (blocks how)
-by_of_task u n (Some (op.Await later handles status)) = named_of_task u handles.items
+-- the posting in terms of a book's fields
+completes : (shelf : Shelf) (held : Record) (t k n count : ℕ) (def : TaskDef) (posting : Posting) (cells : List ℤ) (engine : Switch) (found : Option ReqNo)
+    → KeepsState shelf → Answered shelf held t k n count def posting cells engine found
+    → Completes shelf.program shelf.engine.exchange engine.exchange (request t (nth_at def k)) cells found
+completes shelf held t k n count def posting cells engine found kept a =
+    let p : Program = shelf.program in
+    let old : Exchange = shelf.engine.exchange in
+    let after : engine.program ≡ p = a.program ∙ kept.engine_of in
+    record {
+      after = a.exchange ∙ ap (λ (q : Program). post q old (request t n) cells) kept.engine_of ∙ ap (λ (i : ℕ). post p old (request t i) cells) a.nth;
+      partner_is = sym (a.partner_is ∙ ap (λ (q : Program). partner q old (request t n) cells) kept.engine_of
+          ∙ ap (λ (i : ℕ). partner p old (request t i) cells) a.nth);
+      was = subst (λ (q : Program). IfSome found (λ other. is_complete q old other ≡ completes_alone q.eager (posting_of q other))) kept.engine_of a.before;
+      now = subst (λ (q : Program). IfSome found (λ other. is_complete q engine.exchange other ≡ true)) after a.completed;
+    }
 
--- a task awaits requests of its own
-awaited_of_task : (u : ℕ) (def : TaskDef) (at : Phase) → OfTask u (awaited_at u (Some def) (Some at))
-unfolding awaited
-awaited_of_task u def phase.Waiting = tt
-awaited_of_task u def (phase.At k) = tt
-awaited_of_task u def (phase.In k) = by_of_task u (nth_at def k) (slice_get def.body.items k)
-awaited_of_task u def phase.Ended = tt
-awaited_of_task u def phase.Returned = tt
-awaited_of_task u def phase.Released = tt
-
--- the requests of one task are none of another
-none_of_other : (u : ℕ) (reqs : List ReqNo) (other : ReqNo) → OfTask u reqs → other.task.0 ≢ u → count_by (same_request other) reqs ≡ 0
-none_of_other u [] other own apart = refl
-none_of_other u (req ∷ reqs) other own apart =
-    let whole = sum_by-cons (λ (r : ReqNo). cond (same_request other r) 1 0) req reqs in
-    let differ = false_from_ne_true (same_request other req) (λ same. apart (ap (λ (r : ReqNo). r.task.0) (one_request other req same) ∙ own.0)) in
-    let no = ap {B = ℕ} (λ b. cond b 1 0) differ in
-    let rest = none_of_other u reqs other own.1 apart in
-    omega arith
-
--- handles that name others than this request
-none_named : (u n : ℕ) (handles : List Handle) → ((i : ℕ) (d : Handle) → i < length handles → NamesOther (handle.Nth n) (get_or handles i d))
-    → count_by (same_request (request u n)) (named_requests u handles) ≡ 0
-none_named u n [] others = refl
-none_named u n (handle.Null ∷ handles) others = none_named u n handles (λ i d lt. others (suc i) d (omega arith))
-none_named u n (handle.Nth m ∷ handles) others =
-    let whole = sum_by-cons (λ (r : ReqNo). cond (same_request (request u n) r) 1 0) (request u m) (named_requests u handles) in
-    let apart : n ≢ m = others zero (handle.Nth n) (omega arith) in
-    let differ = false_from_ne_true (same_request (request u n) (request u m))
-    (λ same. apart (ap (λ (r : ReqNo). r.nth) (one_request (request u n) (request u m) same))) in
-    let no = ap {B = ℕ} (λ b. cond b 1 0) differ in
-    let rest = none_named u n handles (λ i d lt. others (suc i) d (omega arith)) in
-    omega arith
-
--- handles that name different requests name this one at most once
-named_once : (u : ℕ) (handles : List Handle) (req : ReqNo) → AllPairs NamesOther handles → count_by (same_request req) (named_requests u handles) ≤ 1
-named_once u [] req apart = omega arith
-named_once u (handle.Null ∷ handles) req apart = named_once u handles req (λ i j d below within. apart (suc i) (suc j) d (omega arith) (omega arith))
-named_once u (handle.Nth n ∷ handles) req apart =
-    let whole = sum_by-cons (λ (r : ReqNo). cond (same_request req r) 1 0) (request u n) (named_requests u handles) in
-    elim (cases_Bool (same_request req (request u n))) [
-      | inl same ↦
-          let one = ap {B = ℕ} (λ b. cond b 1 0) same in
-          let none = none_named u n handles (λ i d lt. apart zero (suc i) d (omega arith) (omega arith)) in
-          let rest : count_by (same_request req) (named_requests u handles) ≡ 0 =
-          ap (λ (r : ReqNo). count_by (same_request r) (named_requests u handles)) (one_request req (request u n) same) ∙ none in
-          omega arith
-      | inr differ ↦
-          let no = ap {B = ℕ} (λ b. cond b 1 0) differ in
-          let rest = named_once u handles req (λ i j d below within. apart (suc i) (suc j) d (omega arith) (omega arith)) in
-          omega arith
-    ]
-
-posted_once : (u n : ℕ) (req : ReqNo) (blocking : Bool) → count_by (same_request req) (cond blocking (request u n ∷ []) []) ≤ 1
-posted_once u n req true =
-    let whole = sum_by-cons (λ (r : ReqNo). cond (same_request req r) 1 0) (request u n) [] in
-    let none : count_by (same_request req) [] ≡ 0 = refl in
-    elim (cases_Bool (same_request req (request u n))) [
-      | inl same ↦ let one = ap {B = ℕ} (λ b. cond b 1 0) same in omega arith
-      | inr differ ↦ let no = ap {B = ℕ} (λ b. cond b 1 0) differ in omega arith
-    ]
-posted_once u n req false = omega arith
-
--- a list around one of its places
-split_here : (ops : List Op) (k : ℕ) (x : Op) → slice_get ops k ≡ Some x → ops ≡ take k ops ++ x ∷ drop (suc k) ops
-split_here [] k x here = absurd (cc)
-split_here (y ∷ ops) zero x here = ap (λ z. z ∷ ops) (same_some here)
-split_here (y ∷ ops) (suc k) x here = ap (λ zs. y ∷ zs) (split_here ops k x here)
-
-follows_at : (p : Program) (u k : ℕ) (def : TaskDef) (x : Op) → WellFormed p → slice_get p.tasks.items u ≡ Some def → slice_get def.body.items k ≡ Some x
-    → Follows def.accesses.items (take k def.body.items) x
-follows_at p u k def x well is_def here =
-    let task : IsTask p def = subst (IsTask p) (get_or_from_slice_get p.tasks.items u def def is_def)
-    (well.tasks u def (slice_get_within p.tasks.items u def is_def)) in
-    task.follows (take k def.body.items) (drop (suc k) def.body.items) x (split_here def.body.items k x here)
-
-by_once : (p : Program) (u k n : ℕ) (def : TaskDef) (req : ReqNo) (o : Option Op) → WellFormed p → slice_get p.tasks.items u ≡ Some def
-    → slice_get def.body.items k ≡ o
-    → count_by (same_request req) (awaited_by u n o) ≤ 1
-by_once p u k n def req None well is_def here = omega arith
-by_once p u k n def req (Some (op.Compute kind dst left right value step)) well is_def here = omega arith
-by_once p u k n def req (Some (op.Post how span peer tag comm status)) well is_def here = posted_once u n req (blocks how)
-by_once p u k n def req (Some (op.Await later handles status)) well is_def here =
-    named_once u handles.items req (follows_at p u k def (op.Await later handles status) well is_def here).handles.1
-
--- a task awaits a request at most once
-awaited_once : (p : Program) (u : ℕ) (def : TaskDef) (at : Phase) (req : ReqNo) → WellFormed p → slice_get p.tasks.items u ≡ Some def
-    → count_by (same_request req) (awaited_at u (Some def) (Some at)) ≤ 1
-unfolding awaited
-awaited_once p u def phase.Waiting req well is_def = omega arith
-awaited_once p u def (phase.At k) req well is_def = omega arith
-awaited_once p u def (phase.In k) req well is_def = by_once p u k (nth_at def k) def req (slice_get def.body.items k) well is_def refl
-awaited_once p u def phase.Ended req well is_def = omega arith
-awaited_once p u def phase.Returned req well is_def = omega arith
-awaited_once p u def phase.Released req well is_def = omega arith
-
--- whether a list has one that passes, and how many do
-any_counts : (f : ReqNo → Bool) (reqs : List ReqNo) → list_any f reqs ≡ true → 1 ≤ count_by f reqs
-any_counts f [] any = absurd (cc any)
-any_counts f (req ∷ reqs) any =
-    let whole = sum_by-cons (λ (r : ReqNo). cond (f r) 1 0) req reqs in
-    elim (cases_Bool (f req)) [
-      | inl passes ↦ let one = ap {B = ℕ} (λ b. cond b 1 0) passes in omega arith
-      | inr fails ↦
-          let rest = any_counts f reqs (sym (ap (λ b. b || list_any f reqs) fails) ∙ any) in
-          omega arith
-    ]
-
-none_counts : (f : ReqNo → Bool) (reqs : List ReqNo) → list_any f reqs ≡ false → count_by f reqs ≡ 0
-none_counts f [] none = refl
-none_counts f (req ∷ reqs) none =
-    let whole = sum_by-cons (λ (r : ReqNo). cond (f r) 1 0) req reqs in
-    elim (cases_Bool (f req)) [
-      | inl passes ↦ absurd (cc (ap (λ b. b || list_any f reqs) passes, none))
-      | inr fails ↦
-          let rest = none_counts f reqs (sym (ap (λ b. b || list_any f reqs) fails) ∙ none) in
-          let zero_here = ap {B = ℕ} (λ b. cond b 1 0) fails in
-          omega arith
-    ]
-
--- requests of task u are complete after a posting exactly where they were
-abbrev AsBefore : Program → Exchange → Exchange → ℕ → Type 0
-AsBefore p x x' u = (r : ReqNo) → r.task.0 ≡ u → is_complete p x' r ≡ is_complete p x r
-
-same_open : (p : Program) (x x' : Exchange) (u : ℕ) (reqs : List ReqNo) → OfTask u reqs → AsBefore p x x' u → open_count p x' reqs ≡ open_count p x reqs
-unfolding open_count
-same_open p x x' u [] own same = refl
-same_open p x x' u (req ∷ reqs) own same =
-    let new = sum_by-cons (λ (r : ReqNo). cond (not (is_complete p x' r)) 1 0) req reqs in
-    let old = sum_by-cons (λ (r : ReqNo). cond (not (is_complete p x r)) 1 0) req reqs in
-    let first = ap {B = ℕ} (λ b. cond (not b) 1 0) (same req own.0) in
-    let rest = same_open p x x' u reqs own.1 same in
-    omega arith
-
--- the request is complete after a posting, and was not before; the other requests of task u are as they were
-record Closes (p : Program) (x x' : Exchange) (u : ℕ) (other : ReqNo) : Type 0 where
-  was : is_complete p x other ≡ false
-  now : is_complete p x' other ≡ true
-  rest : (r : ReqNo) → r.task.0 ≡ u → same_request other r ≡ false → is_complete p x' r ≡ is_complete p x r
-
-fewer_open : (p : Program) (x x' : Exchange) (u : ℕ) (other : ReqNo) (reqs : List ReqNo) → OfTask u reqs → Closes p x x' u other
-    → open_count p x' reqs + count_by (same_request other) reqs ≡ open_count p x reqs
-unfolding open_count
-fewer_open p x x' u other [] own closes = refl
-fewer_open p x x' u other (req ∷ reqs) own closes =
-    let new = sum_by-cons (λ (r : ReqNo). cond (not (is_complete p x' r)) 1 0) req reqs in
-    let old = sum_by-cons (λ (r : ReqNo). cond (not (is_complete p x r)) 1 0) req reqs in
-    let whole = sum_by-cons (λ (r : ReqNo). cond (same_request other r) 1 0) req reqs in
-    let rest = fewer_open p x x' u other reqs own.1 closes in
-    elim (cases_Bool (same_request other req)) [
-      | inl same ↦
-          let one = ap {B = ℕ} (λ b. cond b 1 0) same in
-          let is : req ≡ other = sym (one_request other req same) in
-          let now = ap {B = ℕ} (λ b. cond (not b) 1 0) (ap (is_complete p x') is ∙ closes.now) in
-          let was = ap {B = ℕ} (λ b. cond (not b) 1 0) (ap (is_complete p x) is ∙ closes.was) in
-          omega arith
-      | inr differ ↦
-          let no = ap {B = ℕ} (λ b. cond b 1 0) differ in
-          let first = ap {B = ℕ} (λ b. cond (not b) 1 0) (closes.rest req own.0 differ) in
-          omega arith
-    ]
-
--- for how many things a task waits after the posting of another
-waits_same : (p : Program) (x x' : Exchange) (h : List Bool) (u : ℕ) (def : TaskDef) (at : Phase) → slice_get p.tasks.items u ≡ Some def → AsBefore p x x' u
-    → waits_at p x' h u at ≡ waits_at p x h u at
-waits_same p x x' h u def phase.Waiting is_def same = refl
-waits_same p x x' h u def (phase.At k) is_def same = refl
-waits_same p x x' h u def (phase.In k) is_def same =
-    subst (λ (o : Option TaskDef). open_count p x' (awaited_at u o (Some (phase.In k))) ≡ open_count p x (awaited_at u o (Some (phase.In k)))) (sym is_def)
-    (same_open p x x' u (awaited_at u (Some def) (Some (phase.In k))) (awaited_of_task u def (phase.In k)) same)
-waits_same p x x' h u def phase.Ended is_def same = refl
-waits_same p x x' h u def phase.Returned is_def same = refl
-waits_same p x x' h u def phase.Released is_def same = refl
-
-none_more : (n : ℕ) → n + 0 ≡ n
-none_more n = omega arith
-
-waits_fewer : (p : Program) (x x' : Exchange) (h : List Bool) (u : ℕ) (def : TaskDef) (at : Phase) (other : ReqNo) → slice_get p.tasks.items u ≡ Some def
-    → Closes p x x' u other
-    → waits_at p x' h u at + count_by (same_request other) (awaited_at u (Some def) (Some at)) ≡ waits_at p x h u at
-waits_fewer p x x' h u def phase.Waiting other is_def closes = none_more (waits_at p x h u phase.Waiting)
-waits_fewer p x x' h u def (phase.At k) other is_def closes = none_more 0
-waits_fewer p x x' h u def (phase.In k) other is_def closes =
-    subst (λ (o : Option TaskDef). open_count p x' (awaited_at u o (Some (phase.In k))) + count_by (same_request other)
-    (awaited_at u (Some def) (Some (phase.In k))) ≡ open_count p x (awaited_at u o (Some (phase.In k)))) (sym is_def)
-    (fewer_open p x x' u other (awaited_at u (Some def) (Some (phase.In k))) (awaited_of_task u def (phase.In k)) closes)
-waits_fewer p x x' h u def phase.Ended other is_def closes = none_more 0
-waits_fewer p x x' h u def phase.Returned other is_def closes = none_more 0
-waits_fewer p x x' h u def phase.Released other is_def closes = none_more 1
-
--- what the book reads of a request, where its task stands
-awaits_is : (p : Program) (phs : List Phase) (u : ℕ) (def : TaskDef) (at : Phase) (other : ReqNo) → other.task.0 ≡ u → slice_get p.tasks.items u ≡ Some def
-    → slice_get phs u ≡ Some at
-    → awaits_now p phs other ≡ list_any (same_request other) (awaited_at u (Some def) (Some at))
-awaits_is p phs u def at other same is_def here =
-    ap (λ i. list_any (same_request other) (awaited_at i (slice_get p.tasks.items i) (slice_get phs i))) same
-    ∙ ap (λ (o : Option TaskDef). list_any (same_request other) (awaited_at u o (slice_get phs u))) is_def
-    ∙ ap (λ (q : Option Phase). list_any (same_request other) (awaited_at u (Some def) q)) here
-
--- the numbers of the others after a posting completed this request
-abbrev Told : Program → Exchange → List Bool → List ℕ → ℕ → Phase → Type 0
-Told p x' h ws u at = slice_get ws u ≡ Some (waits_at p x' h u at)
-
-told_one : (p : Program) (h : List Bool) (phs : List Phase) (x x' : Exchange) (ws : List ℕ) (u : ℕ) (def : TaskDef) (at : Phase) (other : ReqNo)
-    (listed : Bool) → WellFormed p → slice_get p.tasks.items u ≡ Some def
-    → slice_get phs u ≡ Some at → slice_get ws u ≡ Some (waits_at p x h u at) → Closes p x x' u other → awaits_now p phs other ≡ listed
-    → Told p x' h (one_less_for ws (cond listed (other ∷ []) [])) u at
-told_one p h phs x x' ws u def at other true well is_def here number closes is =
-    let fewer = waits_fewer p x x' h u def at other is_def closes in
-    elim (cases_eq other.task.0 u) [
-      | inl same ↦
-          let some = any_counts (same_request other) (awaited_at u (Some def) (Some at)) (sym (awaits_is p phs u def at other same is_def here) ∙ is) in
-          let most = awaited_once p u def at other well is_def in
-          let read : get_or ws u 0 ≡ waits_at p x h u at = get_or_from_slice_get ws u (waits_at p x h u at) 0 number in
-          let less : get_or ws u 0 - 1 ≡ waits_at p x' h u at = omega arith in
-          ap (λ i. slice_get (slice_set ws i (get_or ws i 0 - 1)) u) same
-          ∙ slice_get-set_same ws u (get_or ws u 0 - 1) (slice_get_within ws u (waits_at p x h u at) number) ∙ ap Some less
-      | inr apart ↦
-          let none = none_of_other u (awaited_at u (Some def) (Some at)) other (awaited_of_task u def at) apart in
-          let equal : waits_at p x h u at ≡ waits_at p x' h u at = omega arith in
-          slice_get-set_other ws other.task.0 u (get_or ws other.task.0 0 - 1) (λ e. apart (sym e)) ∙ number ∙ ap Some equal
-    ]
-told_one p h phs x x' ws u def at other false well is_def here number closes is =
-    let fewer = waits_fewer p x x' h u def at other is_def closes in
-    elim (cases_eq other.task.0 u) [
-      | inl same ↦
-          let none = none_counts (same_request other) (awaited_at u (Some def) (Some at)) (sym (awaits_is p phs u def at other same is_def here) ∙ is) in
-          let equal : waits_at p x h u at ≡ waits_at p x' h u at = omega arith in
-          number ∙ ap Some equal
-      | inr apart ↦
-          let none = none_of_other u (awaited_at u (Some def) (Some at)) other (awaited_of_task u def at) apart in
-          let equal : waits_at p x h u at ≡ waits_at p x' h u at = omega arith in
-          number ∙ ap Some equal
-    ]
-
--- the others of a posting of task t
-differs : (t n u : ℕ) (r : ReqNo) → u ≢ t → r.task.0 ≡ u → same_request (request t n) r ≡ false
-differs t n u r other own = false_from_ne_true (same_request (request t n) r) (λ same. other (sym own
-    ∙ sym (ap (λ (q : ReqNo). q.task.0) (one_request (request t n) r same))))
-
-told_some : (p : Program) (h : List Bool) (phs : List Phase) (x x' : Exchange) (ws : List ℕ) (t n u : ℕ) (cells : List ℤ) (def : TaskDef) (at : Phase)
-    (other : ReqNo) (alone : Bool) → WellFormed p → slice_get p.tasks.items u ≡ Some def
-    → slice_get phs u ≡ Some at → slice_get ws u ≡ Some (waits_at p x h u at) → u ≢ t → x' ≡ post p x (request t n) cells
-    → partner p x (request t n) cells ≡ Some other
-    → is_complete p x other ≡ alone → is_complete p x' other ≡ true → Told p x' h
-    (one_less_for ws (cond (not alone && awaits_now p phs other) (other ∷ []) [])) u at
-told_some p h phs x x' ws t n u cells def at other true well is_def here number apart is_after is_partner was now =
-    let same : AsBefore p x x' u = λ r own. elim (cases_Bool (same_request other r)) [
-      | inl is ↦
-          let one : r ≡ other = sym (one_request other r is) in
-          ap (is_complete p x') one ∙ now ∙ sym was ∙ ap (is_complete p x) (sym one)
-      | inr differ ↦
-          ap (λ (e : Exchange). is_complete p e r) is_after
-          ∙ only_partner p x (request t n) r cells (differs t n u r apart own)
-          (subst (λ found. IfSome found (λ one. same_request one r ≡ false)) (sym is_partner) differ)
-    ] in
-    number ∙ ap Some (sym (waits_same p x x' h u def at is_def same))
-told_some p h phs x x' ws t n u cells def at other false well is_def here number apart is_after is_partner was now =
-    told_one p h phs x x' ws u def at other (awaits_now p phs other) well is_def here number
-    (record {
-      was = was;
-      now = now;
-      rest = λ r own differ.
-          ap (λ (e : Exchange). is_complete p e r) is_after
-          ∙ only_partner p x (request t n) r cells (differs t n u r apart own)
-          (subst (λ found. IfSome found (λ one. same_request one r ≡ false)) (sym is_partner) differ);
-    }) refl
-
-told_others : (p : Program) (h : List Bool) (phs : List Phase) (x x' : Exchange) (ws : List ℕ) (t n u : ℕ) (cells : List ℤ) (def : TaskDef) (at : Phase)
-    (found : Option ReqNo) → WellFormed p → slice_get p.tasks.items u ≡ Some def
-    → slice_get phs u ≡ Some at → slice_get ws u ≡ Some (waits_at p x h u at) → u ≢ t → x' ≡ post p x (request t n) cells
-    → partner p x (request t n) cells ≡ found
-    → IfSome found (λ other. is_complete p x other ≡ completes_alone p.eager (posting_of p other)) → IfSome found (λ other. is_complete p x' other ≡ true)
-    → Told p x' h (one_less_for ws (noticed_now p phs found)) u at
-told_others p h phs x x' ws t n u cells def at None well is_def here number apart is_after is_partner was now =
-    number ∙ ap Some (sym (waits_same p x x' h u def at is_def (λ r own.
-    ap (λ (e : Exchange). is_complete p e r) is_after
-    ∙ only_partner p x (request t n) r cells (differs t n u r apart own)
-    (subst (λ found. IfSome found (λ one. same_request one r ≡ false)) (sym is_partner) tt))))
-told_others p h phs x x' ws t n u cells def at (Some other) well is_def here number apart is_after is_partner was now =
-    told_some p h phs x x' ws t n u cells def at other (completes_alone p.eager (posting_of p other)) well is_def here number apart is_after is_partner was now
+-- the numbers of the others after the posting
+others_told : (shelf : Shelf) (t u : ℕ) (own : ReqNo) (at : Phase) (bound : ℕ → List ReqNo) (cells : List ℤ) (x' : Exchange) (found : Option ReqNo)
+    → IsBook shelf → Completes shelf.program shelf.engine.exchange x' own cells found → slice_get shelf.phases u ≡ Some at → own.task.0 ≢ u
+    → bound u ≡ bound_in (state_now shelf) u
+    → slice_get (one_less_for shelf.waits (completed_now shelf.program (holds_now shelf.program shelf.phases shelf.marks) found)) u
+    ≡ Some (waits_at shelf.program x' shelf.ready.handed u at (bound u))
+others_told shelf t u own at bound cells x' found book made here apart same =
+    let p : Program = shelf.program in
+    let x : Exchange = shelf.engine.exchange in
+    let h : List Bool = shelf.ready.handed in
+    let had : List ReqNo = bound_in (state_now shelf) u in
+    let reqs : List ReqNo = heard u (slice_get p.tasks.items u) at had in
+    let count = phases_counted shelf book.kept in
+    let within : u < length p.tasks.items = omega (arith, slice_get_within shelf.phases u at here, count) in
+    tally_after p x x' own cells found (holds_now p shelf.phases shelf.marks) u (beside h u at) reqs shelf.waits made
+    (heard_listed shelf u (get_or p.tasks.items u no_task) at own book.kept book.binding.marked (slice_get-get_or p.tasks.items u no_task within) here apart)
+    (book.counted.waits_are u at here ∙ ap Some (waits_parts p x h u at had))
+    ∙ ap Some (sym (waits_parts p x' h u at had)) ∙ ap (λ (z : List ReqNo). Some (waits_at p x' h u at z)) (sym same)
 
 -- as many numbers as before
 pub length-one_less_for : (ws : List ℕ) (reqs : List ReqNo) → length (one_less_for ws reqs) ≡ length ws
@@ -356,66 +158,88 @@ one_open p x req = elim (cases_Bool (is_complete p x req)) [
 own_waits : (p : Program) (x : Exchange) (h : List Bool) (t k : ℕ) (def : TaskDef) (op : Op) (blocking : Bool) → slice_get p.tasks.items t ≡ Some def
     → slice_get def.body.items k ≡ Some op
     → awaited_by t (nth_at def k) (Some op) ≡ cond blocking (request t (nth_at def k) ∷ []) []
-    → waits_at p x h t (cond blocking (phase.In k) (stop def (k + 1))) ≡ cond blocking (cond (is_complete p x (request t (nth_at def k))) 0 1) 0
-own_waits p x h t k def op true is_def is_op listed =
+    → (bound : List ReqNo)
+    → waits_at p x h t (cond blocking (phase.In k) (stop def (k + 1))) bound ≡ cond blocking (cond (is_complete p x (request t (nth_at def k))) 0 1) 0
+own_waits p x h t k def op true is_def is_op listed bound =
     ap (λ (o : Option TaskDef). open_count p x (awaited_at t o (Some (phase.In k)))) is_def
     ∙ ap (open_count p x) (awaited_is t def k op is_op ∙ listed) ∙ one_open p x (request t (nth_at def k))
-own_waits p x h t k def op false is_def is_op listed = stop_waits p x h t def (k + 1)
+own_waits p x h t k def op false is_def is_op listed bound = stop_waits p x h t def (k + 1) bound
+
+none_beside : (n : ℕ) → n ≡ 0 + n
+none_beside n = omega arith
 
 held_after : (def : TaskDef) (k : ℕ) (blocking : Bool) → is_released (cond blocking (phase.In k) (stop def (k + 1))) ≡ false
 held_after def k true = refl
 held_after def k false = stop_is_held def (k + 1)
 
 -- the counts after the call of a posting
-pub called_counted : (p : Program) (g g' : LetGo) (h : List Bool) (phs : List Phase) (x x' : Exchange) (held : ℕ) (ws mid ws' : List ℕ)
-    (t k nth pending number : ℕ) (cells : List ℤ) (def : TaskDef) (op : Op) (blocking : Bool) (found : Option ReqNo) (at : Phase)
-    → WellFormed p → length phs ≡ length p.tasks.items → IsCounted p g h phs x held ws → GoneMore g g' → slice_get p.tasks.items t ≡ Some def
-    → slice_get phs t ≡ Some (phase.At k) → slice_get def.body.items k ≡ Some op
-    → awaited_by t (nth_at def k) (Some op) ≡ cond blocking (request t (nth_at def k) ∷ []) [] → nth ≡ nth_at def k → x' ≡ post p x (request t nth) cells
-    → found ≡ partner p x (request t nth) cells
-    → IfSome found (λ other. is_complete p x other ≡ completes_alone p.eager (posting_of p other)) → IfSome found (λ other. is_complete p x' other ≡ true)
-    → mid ≡ one_less_for ws (noticed_now p phs found) → pending ≡ cond (is_complete p x' (request t nth)) 0 1 → number ≡ cond blocking pending 0
-    → ws' ≡ slice_set mid t number
-    → at ≡ cond blocking (phase.In k) (stop def (k + 1)) → IsCounted p g' h (slice_set phs t at) x' held ws'
-called_counted p g g' h phs x x' held ws mid ws' t k nth pending number cells def op blocking found at well count counted more is_def here is_op listed
-    is_nth is_after is_found was now is_mid is_pending is_number is_ws is_at =
-    let next : Phase = cond blocking (phase.In k) (stop def (k + 1)) in
-    let own : number ≡ waits_at p x' h t next =
-    is_number ∙ ap {B = ℕ} (λ n. cond blocking n 0) (is_pending ∙ ap {B = ℕ} (λ n. cond (is_complete p x' (request t n)) 0 1) is_nth)
-    ∙ sym (own_waits p x' h t k def op blocking is_def is_op listed) in
-    subst (λ (q : Phase). IsCounted p g' h (slice_set phs t q) x' held ws') (sym is_at)
-    (counted_after p g g' h phs x x' held held ws (one_less_for ws (noticed_now p phs found)) ws' t (phase.At k) next counted more here refl
-    (length-one_less_for ws (noticed_now p phs found))
-    (λ u at other there.
-    let within : u < length p.tasks.items = omega (arith, slice_get_within phs u at there, count) in
-    told_others p h phs x x' ws t nth u cells (get_or p.tasks.items u def) at found well (slice_get-get_or p.tasks.items u def within) there
-    (counted.waits_are u at there) other is_after (sym is_found) was now)
-    (is_ws ∙ ap (λ (z : List ℕ). slice_set z t number) is_mid ∙ ap (slice_set (one_less_for ws (noticed_now p phs found)) t) own)
-    (ap (λ n. held + n) (sym (held_one next (held_after def k blocking)))))
-
--- the same in a book's insides
 pub call_counted : (shelf : Shelf) (held : Record) (t k n count number : ℕ) (def : TaskDef) (posting : Posting) (cells : List ℤ) (engine : Switch)
-    (found : Option ReqNo)
-    (prog : Program) (phases : List Phase) (at : Phase) (mid waits : List ℕ) (gone : LetGo)
+    (found : Option ReqNo) (prog : Program) (phases : List Phase) (at : Phase) (mid waits : List ℕ) (gone : LetGo) (bound : ℕ → List ReqNo)
     → IsBook shelf → (c : Calls shelf held t k def posting) → Answered shelf held t k n count def posting cells engine found → prog ≡ shelf.program
     → phases ≡ shelf.phases
-    → mid ≡ one_less_for shelf.waits (noticed_now prog phases found) → number ≡ cond (blocks posting.how) count 0 → waits ≡ slice_set mid t number
-    → at ≡ cond (blocks posting.how) (phase.In k) (stop def (k + 1)) → GoneMore (let_go (state_now shelf).tasks) gone
-    → IsCounted shelf.program gone shelf.ready.handed (slice_set shelf.phases t at) engine.exchange shelf.unreleased waits
-call_counted shelf held t k n count number def posting cells engine found prog phases at mid waits gone book c a same seen is_mid is_number is_ws is_at more =
+    → mid ≡ one_less_for shelf.waits (completed_now prog (holds_now prog phases shelf.marks) found) → number ≡ cond (blocks posting.how) count 0
+    → waits ≡ slice_set mid t number → at ≡ cond (blocks posting.how) (phase.In k) (stop def (k + 1)) → GoneMore (let_go (state_now shelf).tasks) gone
+    → BoundAsBefore (bound_in (state_now shelf)) bound
+    → IsCounted shelf.program gone shelf.ready.handed (slice_set shelf.phases t at) bound engine.exchange shelf.unreleased waits
+call_counted shelf held t k n count number def posting cells engine found prog phases at mid waits gone bound book c a same seen is_mid is_number is_ws
+    is_at more as_before =
     let p : Program = shelf.program in
-    let k_of = book.kept in
-    let old : Exchange = shelf.engine.exchange in
-    let after : engine.program ≡ p = a.program ∙ k_of.engine_of in
-    called_counted p (let_go (state_now shelf).tasks) gone shelf.ready.handed shelf.phases old engine.exchange shelf.unreleased shelf.waits mid waits t k n
-    count number cells def
-    (op.Post posting.how posting.span c.posts.peer c.posts.tag c.posts.comm posting.status) (blocks posting.how) found at
-    k_of.well (phases_counted shelf k_of) book.counted more c.here.is_def
-    (read_at shelf held t def (phase.At k) (phase.At k) k_of c.here c.at) c.posts.is refl a.nth
-    (a.exchange ∙ ap (λ (q : Program). post q old (request t n) cells) k_of.engine_of) (a.partner_is
-    ∙ ap (λ (q : Program). partner q old (request t n) cells) k_of.engine_of)
-    (subst (λ (q : Program). IfSome found (λ other. is_complete q old other ≡ completes_alone q.eager (posting_of q other))) k_of.engine_of a.before)
-    (subst (λ (q : Program). IfSome found (λ other. is_complete q engine.exchange other ≡ true)) after a.completed)
-    (is_mid ∙ ap (λ (q : Program). one_less_for shelf.waits (noticed_now q phases found)) same
-    ∙ ap (λ (z : List Phase). one_less_for shelf.waits (noticed_now p z found)) seen)
-    (a.counted ∙ ap {B = ℕ} (λ (q : Program). cond (is_complete q engine.exchange (request t n)) 0 1) after) is_number is_ws is_at
+    let h : List Bool = shelf.ready.handed in
+    let b : Bool = blocks posting.how in
+    let x' : Exchange = engine.exchange in
+    let own : ReqNo = request t (nth_at def k) in
+    let next : Phase = cond b (phase.In k) (stop def (k + 1)) in
+    let told_by : Program → List Phase → List ReqNo = λ q z. completed_now q (holds_now q z shelf.marks) found in
+    let lowered : List ℕ = one_less_for shelf.waits (told_by p shelf.phases) in
+    let made = completes shelf held t k n count def posting cells engine found book.kept a in
+    let is_lowered : mid ≡ lowered =
+    is_mid ∙ ap (λ (q : Program). one_less_for shelf.waits (told_by q phases)) same ∙ ap (λ (z : List Phase). one_less_for shelf.waits (told_by p z)) seen in
+    let is_own : number ≡ waits_at p x' h t next (bound t) =
+    is_number ∙ ap {B = ℕ} (λ n. cond b n 0) (a.counted ∙ ap {B = ℕ} (λ (q : Program). cond (is_complete q x' (request t n)) 0 1) (a.program
+    ∙ book.kept.engine_of) ∙ ap {B = ℕ} (λ i. cond (is_complete p x' (request t i)) 0 1) a.nth)
+    ∙ sym (own_waits p x' h t k def (op.Post posting.how posting.span c.posts.peer c.posts.tag c.posts.comm posting.status) b c.here.is_def c.posts.is refl
+    (bound t)) in
+    subst (λ (q : Phase). IsCounted p gone h (slice_set shelf.phases t q) bound x' shelf.unreleased waits) (sym is_at)
+    (counted_after p (let_go (state_now shelf).tasks) gone h shelf.phases (bound_in (state_now shelf)) bound shelf.engine.exchange x' shelf.unreleased
+    shelf.unreleased shelf.waits lowered waits t (phase.At k) next book.counted more
+    (read_at shelf held t def (phase.At k) (phase.At k) book.kept c.here c.at) refl (length-one_less_for shelf.waits (told_by p shelf.phases))
+    (λ u q other there. others_told shelf t u own q bound cells x' found book made there (λ e. other (sym e)) (as_before u))
+    (is_ws ∙ ap (λ (z : List ℕ). slice_set z t number) is_lowered ∙ ap (slice_set lowered t) is_own)
+    (ap (λ n. shelf.unreleased + n) (sym (held_one next (held_after def k b)))))
+
+-- what is bound after the call of a posting, which may complete what any task has bound
+pub binding_call : (shelf : Shelf) (held : Record) (t k n count : ℕ) (def : TaskDef) (posting : Posting) (cells : List ℤ) (engine : Switch)
+    (found : Option ReqNo) (prog : Program) (incomplete : List ℕ) (bound : ℕ → List ReqNo)
+    → IsBook shelf → Calls shelf held t k def posting → Answered shelf held t k n count def posting cells engine found → prog ≡ shelf.program
+    → incomplete ≡ one_less_for shelf.incomplete (completed_now prog (is_marked shelf.marks) found) → BoundAsBefore (bound_in (state_now shelf)) bound
+    → IsBinding shelf.program bound engine.exchange shelf.marks shelf.bound incomplete
+binding_call shelf held t k n count def posting cells engine found prog incomplete bound book c a same is_incomplete as_before =
+    let p : Program = shelf.program in
+    let x : Exchange = shelf.engine.exchange in
+    let told : List ReqNo = completed_now p (is_marked shelf.marks) found in
+    let binding = book.binding in
+    let made = completes shelf held t k n count def posting cells engine found book.kept a in
+    let lowered : incomplete ≡ one_less_for shelf.incomplete told =
+    is_incomplete ∙ ap (λ (q : Program). one_less_for shelf.incomplete (completed_now q (is_marked shelf.marks) found)) same in
+    record {
+      marked = λ req. binding.marked req ∙ ap (list_any (same_request req)) (sym (as_before req.task.0));
+      have = binding.have;
+      long = binding.long;
+      numbers_are = λ u within. binding.numbers_are u within ∙ ap (λ (reqs : List ReqNo). Some (length reqs)) (sym (as_before u));
+      long_incomplete = ap (λ (z : List ℕ). length z) lowered ∙ length-one_less_for shelf.incomplete told ∙ binding.long_incomplete;
+      incomplete_are = λ u within.
+          ap (λ (z : List ℕ). slice_get z u) lowered
+          ∙ tally_after p x engine.exchange (request t (nth_at def k)) cells found (is_marked shelf.marks) u 0 (bound_in (state_now shelf) u)
+          shelf.incomplete made (bound_listed shelf held t k u def posting book.kept binding.marked c within)
+          (binding.incomplete_are u within ∙ ap Some (none_beside (open_count p x (bound_in (state_now shelf) u))))
+          ∙ ap Some (sym (none_beside (open_count p engine.exchange (bound_in (state_now shelf) u))))
+          ∙ ap (λ (reqs : List ReqNo). Some (open_count p engine.exchange reqs)) (sym (as_before u));
+    }
+
+-- who is told of what the posting completed is a task of the program
+pub told_within : (shelf : Shelf) (prog : Program) (phases : List Phase) (told : Option Told) (found : Option ReqNo) → IsBook shelf → prog ≡ shelf.program
+    → phases ≡ shelf.phases → told_requests (λ (one : Told). true) told ≡ completed_now prog (expects_now prog phases shelf.marks) found
+    → IfSome told (λ (one : Told). one.req.task.0 < length shelf.program.tasks.items)
+told_within shelf prog phases told found book same seen is =
+    told_exists shelf told found book (is ∙ ap (λ (q : Program). completed_now q (expects_now q phases shelf.marks) found) same
+    ∙ ap (λ (z : List Phase). completed_now shelf.program (expects_now shelf.program z shelf.marks) found) seen)

@@ -1,5 +1,6 @@
 -- What a book counts, before and after a move of a task.
-use Rattle.std.proofs.Common.{◌≡◌, ◌≢◌, ℕ, zero, suc, ◌+◌, ◌<◌, ◌↔◌, Bool, true, false, not, cond, List, [], ◌∷◌, length, drop, get_or, slice_get, slice_set, Option, Some, refl, sym, ap, ◌∙◌, subst, inl, inr, eqb-true, eq-eqb, arith}
+use Rattle.std.proofs.Common.{◌≡◌, ◌≢◌, ℕ, zero, suc, ◌+◌, ◌<◌, ◌↔◌, Bool, true, false, not, cond, List, [], ◌∷◌, length, drop, get_or, slice_get, slice_set}
+use Rattle.std.proofs.Common.{Option, Some, refl, sym, ap, ◌∙◌, subst, inl, inr, eqb-true, eq-eqb, arith}
 use Rattle.std.specs.Prelude.{All, replicate, count_by}
 use Rattle.std.proofs.lemmas.Bool.{cases_Bool}
 use Rattle.std.proofs.lemmas.List.{length-set, length-replicate}
@@ -40,11 +41,12 @@ written : {X : Type 0} (xs : List X) (t : ℕ) (was now at : X) → slice_get xs
 written xs t was now at here there = same_some (sym there ∙ slice_get-set_same xs t now (slice_get_within xs t was here))
 
 -- the counts after a move of a task, where the others wait for what they did or were told
-pub counted_after : (p : Program) (g g' : LetGo) (h : List Bool) (phs : List Phase) (x x' : Exchange) (n n' : ℕ) (ws mid ws' : List ℕ) (t : ℕ) (was now : Phase)
-    → IsCounted p g h phs x n ws → GoneMore g g' → slice_get phs t ≡ Some was → is_released was ≡ false → length mid ≡ length ws
-    → ((u : ℕ) (at : Phase) → u ≢ t → slice_get phs u ≡ Some at → slice_get mid u ≡ Some (waits_at p x' h u at))
-    → ws' ≡ slice_set mid t (waits_at p x' h t now) → n' + 1 ≡ n + cond (is_unreleased now) 1 0 → IsCounted p g' h (slice_set phs t now) x' n' ws'
-counted_after p g g' h phs x x' n n' ws mid ws' t was now counted more here held long others is_ws is_n =
+pub counted_after : (p : Program) (g g' : LetGo) (h : List Bool) (phs : List Phase) (b b' : ℕ → List ReqNo) (x x' : Exchange) (n n' : ℕ)
+    (ws mid ws' : List ℕ) (t : ℕ) (was now : Phase)
+    → IsCounted p g h phs b x n ws → GoneMore g g' → slice_get phs t ≡ Some was → is_released was ≡ false → length mid ≡ length ws
+    → ((u : ℕ) (at : Phase) → u ≢ t → slice_get phs u ≡ Some at → slice_get mid u ≡ Some (waits_at p x' h u at (b' u)))
+    → ws' ≡ slice_set mid t (waits_at p x' h t now (b' t)) → n' + 1 ≡ n + cond (is_unreleased now) 1 0 → IsCounted p g' h (slice_set phs t now) b' x' n' ws'
+counted_after p g g' h phs b b' x x' n n' ws mid ws' t was now counted more here held long others is_ws is_n =
     let within : t < length phs = slice_get_within phs t was here in
     let before : length ws ≡ length phs = counted.long in
     record {
@@ -53,56 +55,65 @@ counted_after p g g' h phs x x' n n' ws mid ws' t was now counted more here held
           let moved = count-set is_unreleased phs t was now here in
           let counts = counted.unreleased_is in
           omega arith;
-      long = ap (λ (z : List ℕ). length z) is_ws ∙ length-set mid t (waits_at p x' h t now) ∙ long ∙ before ∙ sym (length-set phs t now);
+      long = ap (λ (z : List ℕ). length z) is_ws ∙ length-set mid t (waits_at p x' h t now (b' t)) ∙ long ∙ before ∙ sym (length-set phs t now);
       waits_are = λ u at there. elim (either_place u t) [
         | inl same ↦
             let is_at : at ≡ now = written phs t was now at here (subst (λ i. slice_get (slice_set phs t now) i ≡ Some at) same there) in
-            subst (λ i. slice_get ws' i ≡ Some (waits_at p x' h i at)) (sym same)
-            (subst (λ (q : Phase). slice_get ws' t ≡ Some (waits_at p x' h t q)) (sym is_at)
-            (ap (λ (z : List ℕ). slice_get z t) is_ws ∙ slice_get-set_same mid t (waits_at p x' h t now) (omega arith)))
+            subst (λ i. slice_get ws' i ≡ Some (waits_at p x' h i at (b' i))) (sym same)
+            (subst (λ (q : Phase). slice_get ws' t ≡ Some (waits_at p x' h t q (b' t))) (sym is_at)
+            (ap (λ (z : List ℕ). slice_get z t) is_ws ∙ slice_get-set_same mid t (waits_at p x' h t now (b' t)) (omega arith)))
         | inr other ↦
-            ap (λ (z : List ℕ). slice_get z u) is_ws ∙ slice_get-set_other mid t u (waits_at p x' h t now) other
+            ap (λ (z : List ℕ). slice_get z u) is_ws ∙ slice_get-set_other mid t u (waits_at p x' h t now (b' t)) other
             ∙ others u at other (sym (slice_get-set_other phs t u now other) ∙ there)
       ];
       let_in = λ u handed. starts_more p g g' u more (counted.let_in u handed);
     }
 
--- a move that changes nothing of what tasks wait for
-pub counted_move : (p : Program) (g g' : LetGo) (h : List Bool) (phs : List Phase) (x : Exchange) (n n' : ℕ) (ws ws' : List ℕ) (t : ℕ) (was now : Phase)
-    → IsCounted p g h phs x n ws → GoneMore g g' → slice_get phs t ≡ Some was → is_released was ≡ false
-    → ws' ≡ slice_set ws t (waits_at p x h t now) → n' + 1 ≡ n + cond (is_unreleased now) 1 0 → IsCounted p g' h (slice_set phs t now) x n' ws'
-counted_move p g g' h phs x n n' ws ws' t was now counted more here held is_ws is_n =
-    counted_after p g g' h phs x x n n' ws ws ws' t was now counted more here held refl (λ u at other there. counted.waits_are u at there) is_ws is_n
+-- the others have bound what they had, so they wait for what they did
+others_wait : (p : Program) (x : Exchange) (h : List Bool) (b b' : ℕ → List ReqNo) (ws : List ℕ) (u : ℕ) (at : Phase)
+    → slice_get ws u ≡ Some (waits_at p x h u at (b u)) → b' u ≡ b u → slice_get ws u ≡ Some (waits_at p x h u at (b' u))
+others_wait p x h b b' ws u at number same = number ∙ ap (λ (reqs : List ReqNo). Some (waits_at p x h u at reqs)) (sym same)
+
+-- a move that changes nothing of what the others wait for
+pub counted_move : (p : Program) (g g' : LetGo) (h : List Bool) (phs : List Phase) (b b' : ℕ → List ReqNo) (x : Exchange) (n n' : ℕ) (ws ws' : List ℕ)
+    (t : ℕ) (was now : Phase)
+    → IsCounted p g h phs b x n ws → GoneMore g g' → slice_get phs t ≡ Some was → is_released was ≡ false → ((u : ℕ) → u ≢ t → b' u ≡ b u)
+    → ws' ≡ slice_set ws t (waits_at p x h t now (b' t)) → n' + 1 ≡ n + cond (is_unreleased now) 1 0 → IsCounted p g' h (slice_set phs t now) b' x n' ws'
+counted_move p g g' h phs b b' x n n' ws ws' t was now counted more here held same is_ws is_n =
+    counted_after p g g' h phs b b' x x n n' ws ws ws' t was now counted more here held refl
+    (λ u at other there. others_wait p x h b b' ws u at (counted.waits_are u at there) (same u other)) is_ws is_n
 
 -- a move after which the task still waits for nothing
-pub counted_on : (p : Program) (g g' : LetGo) (h : List Bool) (phs : List Phase) (x : Exchange) (n : ℕ) (ws : List ℕ) (t : ℕ) (was now : Phase)
-    → IsCounted p g h phs x n ws → GoneMore g g' → slice_get phs t ≡ Some was → is_released was ≡ false → is_released now ≡ false → waits_at p x h t was ≡ 0
-    → waits_at p x h t now ≡ 0 → IsCounted p g' h (slice_set phs t now) x n ws
-counted_on p g g' h phs x n ws t was now counted more here held held' none none' =
-    counted_move p g g' h phs x n n ws ws t was now counted more here held
-    (sym (slice_set_same ws t (waits_at p x h t now) (counted.waits_are t was here ∙ ap Some (none ∙ sym none'))))
+pub counted_on : (p : Program) (g g' : LetGo) (h : List Bool) (phs : List Phase) (b b' : ℕ → List ReqNo) (x : Exchange) (n : ℕ) (ws : List ℕ) (t : ℕ)
+    (was now : Phase)
+    → IsCounted p g h phs b x n ws → GoneMore g g' → slice_get phs t ≡ Some was → is_released was ≡ false → is_released now ≡ false
+    → ((u : ℕ) → u ≢ t → b' u ≡ b u) → waits_at p x h t was (b t) ≡ 0 → waits_at p x h t now (b' t) ≡ 0
+    → IsCounted p g' h (slice_set phs t now) b' x n ws
+counted_on p g g' h phs b b' x n ws t was now counted more here held held' same none none' =
+    counted_move p g g' h phs b b' x n n ws ws t was now counted more here held same
+    (sym (slice_set_same ws t (waits_at p x h t now (b' t)) (counted.waits_are t was here ∙ ap Some (none ∙ sym none'))))
     (ap (λ k. n + k) (sym (held_one now held')))
 
 -- where a task stops it waits for nothing
-stop_at_waits : (p : Program) (x : Exchange) (h : List Bool) (t k : ℕ) (ops : List Op) → waits_at p x h t (stop_at k ops) ≡ 0
-stop_at_waits p x h t k [] = refl
-stop_at_waits p x h t k (op.Compute kind dst left right value step ∷ ops) = stop_at_waits p x h t (k + 1) ops
-stop_at_waits p x h t k (op.Post how span peer tag comm status ∷ ops) = refl
-stop_at_waits p x h t k (op.Await later handles status ∷ ops) = refl
+stop_at_waits : (p : Program) (x : Exchange) (h : List Bool) (t k : ℕ) (ops : List Op) (bound : List ReqNo) → waits_at p x h t (stop_at k ops) bound ≡ 0
+stop_at_waits p x h t k [] bound = refl
+stop_at_waits p x h t k (op.Compute kind dst left right value step ∷ ops) bound = stop_at_waits p x h t (k + 1) ops bound
+stop_at_waits p x h t k (op.Post how span peer tag comm status ∷ ops) bound = refl
+stop_at_waits p x h t k (op.Await later handles status ∷ ops) bound = refl
 
-pub stop_waits : (p : Program) (x : Exchange) (h : List Bool) (t : ℕ) (def : TaskDef) (k : ℕ) → waits_at p x h t (stop def k) ≡ 0
+pub stop_waits : (p : Program) (x : Exchange) (h : List Bool) (t : ℕ) (def : TaskDef) (k : ℕ) (bound : List ReqNo) → waits_at p x h t (stop def k) bound ≡ 0
 unfolding stop
-stop_waits p x h t def k = stop_at_waits p x h t k (drop k def.body.items)
+stop_waits p x h t def k bound = stop_at_waits p x h t k (drop k def.body.items) bound
 
 -- a task that was handed out
-waits_handed : (p : Program) (x : Exchange) (h h' : List Bool) (t : ℕ) (at : Phase) → get_or h' t false ≡ get_or h t false
-    → waits_at p x h' t at ≡ waits_at p x h t at
-waits_handed p x h h' t phase.Waiting same = ap {B = ℕ} (λ b. cond b 0 1) same
-waits_handed p x h h' t (phase.At k) same = refl
-waits_handed p x h h' t (phase.In k) same = refl
-waits_handed p x h h' t phase.Ended same = refl
-waits_handed p x h h' t phase.Returned same = refl
-waits_handed p x h h' t phase.Released same = refl
+waits_handed : (p : Program) (x : Exchange) (h h' : List Bool) (t : ℕ) (at : Phase) (bound : List ReqNo) → get_or h' t false ≡ get_or h t false
+    → waits_at p x h' t at bound ≡ waits_at p x h t at bound
+waits_handed p x h h' t phase.Waiting bound same = ap {B = ℕ} (λ b. cond b 0 1) same
+waits_handed p x h h' t (phase.At k) bound same = refl
+waits_handed p x h h' t (phase.In k) bound same = refl
+waits_handed p x h h' t phase.Ended bound same = refl
+waits_handed p x h h' t phase.Returned bound same = refl
+waits_handed p x h h' t phase.Released bound same = refl
 
 get_or-other : (xs : List Bool) (t u : ℕ) (b : Bool) → u ≢ t → get_or (slice_set xs t b) u false ≡ get_or xs u false
 get_or-other [] t u b other = refl
@@ -112,10 +123,10 @@ get_or-other (y ∷ ys) (suc t) zero b other = refl
 get_or-other (y ∷ ys) (suc t) (suc u) b other = get_or-other ys t u b (λ same. other (ap suc same))
 
 -- the counts after a task was handed out
-pub counted_ready : (p : Program) (g : LetGo) (h h' : List Bool) (phs : List Phase) (x : Exchange) (n : ℕ) (ws ws' : List ℕ) (t : ℕ)
-    → IsCounted p g h phs x n ws → slice_get h t ≡ Some false → slice_get phs t ≡ Some phase.Waiting → MayStart p g t
-    → h' ≡ slice_set h t true → ws' ≡ slice_set ws t 0 → IsCounted p g h' phs x n ws'
-counted_ready p g h h' phs x n ws ws' t counted not_yet waits may is_h is_ws =
+pub counted_ready : (p : Program) (g : LetGo) (h h' : List Bool) (phs : List Phase) (b : ℕ → List ReqNo) (x : Exchange) (n : ℕ) (ws ws' : List ℕ) (t : ℕ)
+    → IsCounted p g h phs b x n ws → slice_get h t ≡ Some false → slice_get phs t ≡ Some phase.Waiting → MayStart p g t
+    → h' ≡ slice_set h t true → ws' ≡ slice_set ws t 0 → IsCounted p g h' phs b x n ws'
+counted_ready p g h h' phs b x n ws ws' t counted not_yet waits may is_h is_ws =
     let within : t < length h = slice_get_within h t false not_yet in
     let place : t < length phs = slice_get_within phs t phase.Waiting waits in
     let long : length ws ≡ length phs = counted.long in
@@ -127,12 +138,12 @@ counted_ready p g h h' phs x n ws ws' t counted not_yet waits may is_h is_ws =
             let is_at : at ≡ phase.Waiting = same_some (sym there ∙ ap (slice_get phs) same ∙ waits) in
             let now : get_or h' t false ≡ true = get_or_from_slice_get h' t true false (ap (λ (z : List Bool). slice_get z t) is_h
             ∙ slice_get-set_same h t true within) in
-            subst (λ i. slice_get ws' i ≡ Some (waits_at p x h' i at)) (sym same)
-            (subst (λ (q : Phase). slice_get ws' t ≡ Some (waits_at p x h' t q)) (sym is_at)
-            (ap (λ (z : List ℕ). slice_get z t) is_ws ∙ slice_get-set_same ws t 0 (omega arith) ∙ ap (λ b. Some (cond b 0 1)) (sym now)))
+            subst (λ i. slice_get ws' i ≡ Some (waits_at p x h' i at (b i))) (sym same)
+            (subst (λ (q : Phase). slice_get ws' t ≡ Some (waits_at p x h' t q (b t))) (sym is_at)
+            (ap (λ (z : List ℕ). slice_get z t) is_ws ∙ slice_get-set_same ws t 0 (omega arith) ∙ ap (λ handed. Some (cond handed 0 1)) (sym now)))
         | inr other ↦
             ap (λ (z : List ℕ). slice_get z u) is_ws ∙ slice_get-set_other ws t u 0 other ∙ counted.waits_are u at there
-            ∙ ap Some (sym (waits_handed p x h h' u at (ap (λ (z : List Bool). get_or z u false) is_h ∙ get_or-other h t u true other)))
+            ∙ ap Some (sym (waits_handed p x h h' u at (b u) (ap (λ (z : List Bool). get_or z u false) is_h ∙ get_or-other h t u true other)))
       ];
       let_in = λ u handed. elim (either_place u t) [
         | inl same ↦ subst (MayStart p g) (sym same) may
@@ -155,11 +166,11 @@ of_replicate (suc n) x y (suc t) here =
     (rest.0, omega (arith, rest.1))
 
 -- the counts of a new book
-pub counted_first : (p : Program) (g : LetGo) (h : List Bool) (phs : List Phase) (x : Exchange) (n : ℕ) (ws : List ℕ)
+pub counted_first : (p : Program) (g : LetGo) (h : List Bool) (phs : List Phase) (b : ℕ → List ReqNo) (x : Exchange) (n : ℕ) (ws : List ℕ)
     → h ≡ replicate (length p.tasks.items) false → phs ≡ replicate (length p.tasks.items) phase.Waiting → n ≡ length p.tasks.items
     → ws ≡ replicate (length p.tasks.items) 1
-    → IsCounted p g h phs x n ws
-counted_first p g h phs x n ws is_h is_phs is_n is_ws =
+    → IsCounted p g h phs b x n ws
+counted_first p g h phs b x n ws is_h is_phs is_n is_ws =
     let tasks = length p.tasks.items in
     record {
       unreleased_is = is_n ∙ sym (ap (λ (z : List Phase). count_by is_unreleased z) is_phs ∙ count_all tasks);
@@ -169,8 +180,8 @@ counted_first p g h phs x n ws is_h is_phs is_n is_ws =
           let place = of_replicate tasks phase.Waiting at t (sym (ap (λ (z : List Phase). slice_get z t) is_phs) ∙ here) in
           let not_yet : get_or h t false ≡ false = get_or_from_slice_get h t false false (ap (λ (z : List Bool). slice_get z t) is_h
           ∙ at_replicate tasks false t place.1) in
-          subst (λ (q : Phase). slice_get ws t ≡ Some (waits_at p x h t q)) (sym place.0)
-          (ap (λ (z : List ℕ). slice_get z t) is_ws ∙ at_replicate tasks 1 t place.1 ∙ ap (λ b. Some (cond b 0 1)) (sym not_yet));
+          subst (λ (q : Phase). slice_get ws t ≡ Some (waits_at p x h t q (b t))) (sym place.0)
+          (ap (λ (z : List ℕ). slice_get z t) is_ws ∙ at_replicate tasks 1 t place.1 ∙ ap (λ handed. Some (cond handed 0 1)) (sym not_yet));
       let_in = λ t handed.
           let never = of_replicate tasks false true t (sym (ap (λ (z : List Bool). slice_get z t) is_h) ∙ handed) in
           absurd (cc (never.0));
@@ -194,16 +205,15 @@ none_incomplete p x (req ∷ reqs) =
 
 -- a task that was started may move exactly where it waits for nothing
 pub waits_for_none : (p : Program) (s : State) (h : List Bool) (t : ℕ) (def : TaskDef) (task : Task) (at : Phase) → slice_get p.tasks.items t ≡ Some def
-    → task.bound ≡ [] → at ≢ phase.Waiting
-    → (waits_at p s.exchange h t at ≡ 0) ↔ MayMoveAt p s.tasks s.exchange t def task at
-waits_for_none p s h t def task phase.Waiting is_def unbound started = absurd (started refl)
-waits_for_none p s h t def task (phase.At k) is_def unbound started = (λ none. tt, λ may. refl)
-waits_for_none p s h t def task (phase.In k) is_def unbound started =
+    → at ≢ phase.Waiting → (waits_at p s.exchange h t at task.bound ≡ 0) ↔ MayMoveAt p s.tasks s.exchange t def task at
+waits_for_none p s h t def task phase.Waiting is_def started = absurd (started refl)
+waits_for_none p s h t def task (phase.At k) is_def started = (λ none. tt, λ may. refl)
+waits_for_none p s h t def task (phase.In k) is_def started =
     subst (λ (o : Option TaskDef). (open_count p s.exchange (awaited_at t o (Some (phase.In k))) ≡ 0) ↔ AreComplete p s.exchange (awaited t def k)) (sym is_def)
     (none_incomplete p s.exchange (awaited t def k))
-waits_for_none p s h t def task phase.Ended is_def unbound started = (λ none. tt, λ may. refl)
-waits_for_none p s h t def task phase.Returned is_def unbound started = (λ none. subst (AreComplete p s.exchange) (sym unbound) tt, λ may. refl)
-waits_for_none p s h t def task phase.Released is_def unbound started = (λ none. absurd (cc none), λ may. absurd may)
+waits_for_none p s h t def task phase.Ended is_def started = (λ none. tt, λ may. refl)
+waits_for_none p s h t def task phase.Returned is_def started = none_incomplete p s.exchange task.bound
+waits_for_none p s h t def task phase.Released is_def started = (λ none. absurd (cc none), λ may. absurd may)
 
 -- a number that is 0 is counted, and where none is nothing is
 pub zero_counts : (ws : List ℕ) (t : ℕ) → slice_get ws t ≡ Some 0 → count_by is_zero ws ≡ 0 → ⊥

@@ -1,5 +1,6 @@
 -- The task of a record, as the caller, the book and the machine's state have it.
-use Rattle.std.proofs.Common.{◌≡◌, ◌≢◌, ℕ, ◌+◌, ◌<◌, ◌≤◌, Bool, true, false, List, length, drop, slice_get, Some, Option, refl, sym, ap, ◌∙◌, subst, cond, ltb, arith}
+use Rattle.std.proofs.Common.{◌≡◌, ◌≢◌, ℕ, ◌+◌, ◌<◌, ◌≤◌, Bool, true, false, List, length, drop, slice_get, Some, Option, refl, sym, ap, ◌∙◌, subst, cond}
+use Rattle.std.proofs.Common.{ltb, arith}
 use Rattle.std.specs.Prelude.{ℤ, unwrap_or}
 use Rattle.std.proofs.lemmas.Option.{slice_get_within}
 use Rattle.std.proofs.lemmas.List.{length-map}
@@ -125,7 +126,7 @@ notice_room shelf held t def at q k h is =
 
 pub phases_counted : (shelf : Shelf) → KeepsState shelf → length shelf.phases ≡ length shelf.program.tasks.items
 phases_counted shelf k =
-    ap (λ (z : List Phase). length z) k.phases_are ∙ length-map (state_now shelf).tasks (λ (z : Task). z.phase) ∙ k.tidy.counted
+    ap (λ (z : List Phase). length z) k.phases_are ∙ length-map (state_now shelf).tasks (λ (z : Task). z.phase) ∙ k.fits.counted
 
 pub place_within : (shelf : Shelf) (held : Record) (t : ℕ) (def : TaskDef) (at : Phase) → KeepsState shelf → Held shelf held t def at → t < length shelf.phases
 place_within shelf held t def at k h = slice_get_within shelf.phases t h.was.phase (phase_read shelf t h.was k h.is_task)

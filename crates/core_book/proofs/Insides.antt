@@ -1,5 +1,6 @@
 -- The fields of a book as its insides.
 use Rattle.std.specs.Prelude.{vec_capacity}
+use Rattle.std.specs.VecDeque.{deque_capacity}
 use Rattle.core_book.specs.declared.book.Book.TheInside.{Inside}
 use Rattle.core_book.specs.Kept.{Shelf}
 
@@ -17,9 +18,12 @@ shelf_of b = record {
   unreleased = b.unreleased;
   waits = b.waits;
   posted = b.posted;
+  marks = b.marks;
+  bound = b.bound;
+  incomplete = b.incomplete;
   opened = b.opened.items;
   entry_places = vec_capacity b.entries;
   status_places = vec_capacity b.statuses;
-  notice_places = vec_capacity b.notices;
+  notice_places = deque_capacity b.notices;
   opened_places = vec_capacity b.opened;
 }

@@ -1,5 +1,6 @@
 -- What the end of a posting in which a task waited owes, in terms of a book's fields.
-use Rattle.std.proofs.Common.{◌≡◌, ◌≢◌, ℕ, ◌+◌, ◌<◌, ◌≤◌, Bool, true, false, cond, List, [], ◌∷◌, ◌++◌, length, filter, slice_get, slice_set, Some, None, Option, IsSome, IfSome, refl, sym, ap, ◌∙◌, subst, arith}
+use Rattle.std.proofs.Common.{◌≡◌, ◌≢◌, ℕ, ◌+◌, ◌<◌, ◌≤◌, Bool, true, false, cond, List, [], ◌∷◌, ◌++◌, length, filter, slice_get, slice_set, Some, None}
+use Rattle.std.proofs.Common.{Option, IsSome, IfSome, refl, sym, ap, ◌∙◌, subst, arith}
 use Rattle.std.specs.Prelude.{ℤ}
 use Rattle.std.proofs.lemmas.List.{length-take}
 use Rattle.std.proofs.lemmas.Option.{slice_get_within, same_Some}
@@ -19,7 +20,7 @@ use Rattle.rt_base.specs.declared.data.Entry.TheVariants as entry
 use Rattle.rt_base.specs.declared.data.TaskDef.{TaskDef}
 use Rattle.rt_base.specs.declared.data.Program.{Program}
 use Rattle.rt_base.specs.Spans.{span_len}
-use Rattle.rt_base.specs.Operations.{task_no, request, blocks, is_receive, is_posting, nth_at, posting_of, awaited}
+use Rattle.rt_base.specs.Operations.{task_no, request, is_receive, is_posting, nth_at, posting_of, awaited}
 use Rattle.rt_base.specs.Exchange.{Exchange, Match}
 use Rattle.rt_base.specs.Completion.{is_complete, request_cells, receive_cells, cells_by, match_with}
 use Rattle.rt_base.specs.State.{State, Task, is_released}
@@ -53,7 +54,7 @@ pub record Within (shelf : Shelf) (held : Record) (t k : ℕ) (def : TaskDef) : 
 
 pub is_blocked : (shelf : Shelf) (held : Record) (t k : ℕ) (def : TaskDef) → KeepsState shelf → Held shelf held t def (phase.In k)
     → is_blocking_call (slice_get def.body.items k) ≡ true
-is_blocked shelf held t k def kept here = subst (IsInBlocking def) here.stands.0 (kept.tidy.blocking t def here.was here.is_def here.is_task)
+is_blocked shelf held t k def kept here = subst (IsInBlocking def) here.stands.0 (kept.fits.blocking t def here.was here.is_def here.is_task)
 
 pub is_within : (shelf : Shelf) (held : Record) (t k : ℕ) (def : TaskDef) (l : Ledger) (prog : Program) → KeepsState shelf → ledger_of shelf ≡ l
     → prog ≡ l.program → StandsFor prog held (final prog l.history) → MayMove prog (final prog l.history) held.task → t ≡ held.task
@@ -270,7 +271,8 @@ taken_is p e t k def posting copy posts =
     ap (λ (o : Option Op). put_at_posting def o (request_cells p e req) copy) among in
     rw (told_is p e t k def posting posts, posts.is) (ap (put_statuses def posting.status (told_now p e req posting.how)) stored)
 
-pub told_here : (shelf : Shelf) (t k n : ℕ) (def : TaskDef) (posting : Posting) → KeepsState shelf → PostsAs (slice_get def.body.items k) posting → n ≡ nth_at def k
+pub told_here : (shelf : Shelf) (t k n : ℕ) (def : TaskDef) (posting : Posting) → KeepsState shelf → PostsAs (slice_get def.body.items k) posting
+    → n ≡ nth_at def k
     → told_now shelf.engine.program shelf.engine.exchange (request t n) posting.how ≡ told shelf.program (state_now shelf).exchange t def k
 told_here shelf t k n def posting kept posts nth =
     ap (λ (z : Program). told_now z shelf.engine.exchange (request t n) posting.how) kept.engine_of
@@ -311,7 +313,7 @@ pub leave_changed : (shelf : Shelf) (held : Record) (t k : ℕ) (def : TaskDef) 
     (leave_move shelf.program (state_now shelf) t def i.here.was k).state
     (leave_move shelf.program (state_now shelf) t def i.here.was k).entry
 leave_changed shelf held t k def kept i =
-    leave_changes shelf.program (state_now shelf) t def i.here.was k i.here.is_def i.here.is_task i.here.stands.0 i.may kept.tidy
+    leave_changes shelf.program (state_now shelf) t def i.here.was k i.here.is_def i.here.is_task i.here.stands.0 i.may kept.fits
 
 -- the insides after a leave
 abbrev pub shelf_left : Shelf → ℕ → Phase → List Status → List Entry → List ReqNo → ℕ → ℕ → ℕ → Shelf

@@ -1,5 +1,6 @@
 -- A book's insides after a move of a task: one lemma for what they keep, and one for what the caller sees.
-use Rattle.std.proofs.Common.{◌≡◌, ℕ, ◌+◌, ◌≤◌, Bool, true, false, List, [], ◌∷◌, ◌++◌, length, map, slice_get, slice_set, Some, refl, sym, ap, ◌∙◌, subst, arith}
+use Rattle.std.proofs.Common.{◌≡◌, ℕ, ◌+◌, ◌≤◌, Bool, true, false, List, [], ◌∷◌, ◌++◌, length, map, slice_get, slice_set, Some, refl, sym, ap, ◌∙◌, subst}
+use Rattle.std.proofs.Common.{arith}
 use Rattle.std.specs.Prelude.{option_map}
 use Rattle.std.proofs.lemmas.List.{map-set, length-append}
 use Rattle.std.proofs.lemmas.Option.{slice_get_within}
@@ -23,8 +24,8 @@ use Rattle.task_machine.proofs.Runs.{final-push, legal-push}
 use Rattle.task_machine.proofs.Lists.{slice_get-set_same, slice_set_same, slice_get-map}
 use Rattle.task_machine.proofs.Growth.{gone_by}
 use Rattle.core_book.specs.Ledger.{Ledger, MakesMove, record_at, record_after}
-use Rattle.core_book.specs.Kept.{Shelf, HasRoom, HasRooms, KeepsState, IsTidy, entries_left, postings_left, state_now, to_tell}
-use Rattle.core_book.proofs.After.{Changes, tidy_after, phases_after, begun_after}
+use Rattle.core_book.specs.Kept.{Shelf, HasRoom, HasRooms, KeepsState, FitsProgram, entries_left, postings_left, state_now, to_tell}
+use Rattle.core_book.proofs.After.{Changes, fits_after, phases_after, begun_after}
 use Rattle.core_book.proofs.Opened.{last_opened-push}
 use Rattle.core_book.proofs.Rooms.{few_entries_at_first, room_goes_on}
 
@@ -89,19 +90,20 @@ pub gone_kept : (shelf : Shelf) (t : ℕ) (was now : Task) → KeepsState shelf 
 gone_kept shelf t was now k is_task held held' = k.gone_is ∙ gone_same (state_now shelf).tasks t was now is_task held held'
 
 -- a move of task t alone, that tells nothing, takes no message and opens nothing
-pub moved_alone : (shelf : Shelf) (t : ℕ) (was now : Task) (e : Entry) (at : Phase) (entries : List Entry) (found : List ReqNo) (places places' : ℕ)
-    → KeepsState shelf
-    → slice_get (state_now shelf).tasks t ≡ Some was → is_released was.phase ≡ false → is_released now.phase ≡ false → slice_get shelf.ready.handed t ≡ Some true
-    → at ≡ now.phase → entries ≡ shelf.entries ++ e ∷ [] → found ≡ opened shelf.program (state_now shelf) t → shelf.entry_places ≤ places
-    → shelf.opened_places ≤ places'
+pub moved_alone : (shelf : Shelf) (t : ℕ) (was now : Task) (e : Entry) (at : Phase) (entries : List Entry) (waits : List ℕ) (found : List ReqNo)
+    (places places' : ℕ) → KeepsState shelf
+    → slice_get (state_now shelf).tasks t ≡ Some was → is_released was.phase ≡ false → is_released now.phase ≡ false
+    → slice_get shelf.ready.handed t ≡ Some true → at ≡ now.phase → entries ≡ shelf.entries ++ e ∷ []
+    → found ≡ opened shelf.program (state_now shelf) t → shelf.entry_places ≤ places → shelf.opened_places ≤ places'
     → IsMoved shelf (record shelf {
       phases = slice_set shelf.phases t at;
       entries = entries;
+      waits = waits;
       opened = found;
       entry_places = places;
       opened_places = places';
     }) t now (with_task (state_now shelf) t now) e
-moved_alone shelf t was now e at entries found places places' k is_task held held' handed stops grown opens more more' = record {
+moved_alone shelf t was now e at entries waits found places places' k is_task held held' handed stops grown opens more more' = record {
   program = refl;
   workers = refl;
   handed = handed;
@@ -197,8 +199,8 @@ book_after old new t def was now state e k c m =
       opened_are = m.opened ∙ sym (last_opened-push old.program old.entries t e exists c.who) ∙ ap (last_opened old.program) (sym m.entries)
           ∙ ap (λ (q : Program). last_opened q new.entries) (sym m.program);
       gone_is = m.gone ∙ ap (λ (z : State). let_go z.tasks) (sym end);
-      tidy = subst (λ (q : Program). IsTidy q (state_now new)) (sym m.program)
-          (subst (IsTidy old.program) (sym end) (tidy_after old.program (state_now old) t def was now state e k.tidy c));
+      fits = subst (λ (q : Program). FitsProgram q (state_now new)) (sym m.program)
+          (subst (FitsProgram old.program) (sym end) (fits_after old.program (state_now old) t def was now state e k.fits c));
       begun = λ u at here started. ap (λ (z : List Bool). slice_get z u) m.marks
           ∙ begun_after old.phases old.ready.handed t u now.phase at k.begun m.handed (sym (ap (λ (z : List Phase). slice_get z u) m.phases) ∙ here) started;
       of_program = m.of_program ∙ k.of_program ∙ sym m.program;
@@ -253,7 +255,8 @@ makes_move old new before after t d was now state e kept c m who of_program left
         task = now;
         is_def = ap (slice_get p.tasks.items) mine ∙ c.is_def;
         is_task = ap (slice_get (final p new.entries).tasks) mine ∙ ap (λ (z : State). slice_get z.tasks t) end
-            ∙ ap (λ (z : List Task). slice_get z t) c.tasks ∙ slice_get-set_same (state_now old).tasks t now (slice_get_within (state_now old).tasks t was c.is_task);
+            ∙ ap (λ (z : List Task). slice_get z t) c.tasks
+            ∙ slice_get-set_same (state_now old).tasks t now (slice_get_within (state_now old).tasks t was c.is_task);
         stands = stands;
       };
       left = left;

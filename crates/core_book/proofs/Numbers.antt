@@ -1,5 +1,6 @@
 -- How many requests each task has posted, before and after a move of a task.
-use Rattle.std.proofs.Common.{◌≡◌, ℕ, Bool, ◌+◌, ◌-◌, ◌<◌, ◌^◌, true, false, cond, List, length, take, get_or, slice_get, slice_set, Some, refl, sym, ap, ◌∙◌, subst, inl, inr, arith}
+use Rattle.std.proofs.Common.{◌≡◌, ℕ, Bool, ◌+◌, ◌-◌, ◌<◌, ◌^◌, true, false, cond, List, length, take, get_or, slice_get, slice_set, Some, refl, sym, ap, ◌∙◌}
+use Rattle.std.proofs.Common.{subst, inl, inr, arith}
 use Rattle.std.specs.Prelude.{replicate}
 use Rattle.std.proofs.lemmas.List.{length-set, length-replicate, length-take, get_or_past}
 use Rattle.std.proofs.lemmas.List.Sums.{count_by-le-length}

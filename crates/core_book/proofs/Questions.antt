@@ -1,5 +1,6 @@
 -- What a book answers of its tasks, in terms of its fields.
-use Rattle.std.proofs.Common.{◌≡◌, ℕ, ◌+◌, ◌<◌, ◌≤◌, ◌↔◌, Bool, true, false, ◌||◌, cond, List, [], ◌∷◌, length, map, slice_get, get_or, Some, None, Option, IsTrue, refl, sym, ap, ◌∙◌, subst, All, below_more, arith}
+use Rattle.std.proofs.Common.{◌≡◌, ℕ, ◌+◌, ◌<◌, ◌≤◌, ◌↔◌, Bool, true, false, ◌||◌, cond, List, [], ◌∷◌, length, map, slice_get, get_or, Some, None, Option}
+use Rattle.std.proofs.Common.{IsTrue, refl, sym, ap, ◌∙◌, subst, All, below_more, arith}
 use Rattle.std.specs.Prelude.{option_map, ◌==◌, ◌&&◌}
 use Rattle.std.specs.List.{list_any}
 use Rattle.std.proofs.lemmas.Bool.Decides.{nat_tests}
@@ -170,7 +171,7 @@ is_in phase.Ended = false
 is_in phase.Returned = false
 is_in phase.Released = false
 
-awaits_none : (req : ReqNo) (o : Option TaskDef) (at : Phase) → is_in at ≡ false → false ≡ list_any (same_request req) (awaited_at req.task.0 o (Some at))
+pub awaits_none : (req : ReqNo) (o : Option TaskDef) (at : Phase) → is_in at ≡ false → false ≡ list_any (same_request req) (awaited_at req.task.0 o (Some at))
 awaits_none req None at out = refl
 awaits_none req (Some def) phase.Waiting out = refl
 awaits_none req (Some def) (phase.At k) out = refl

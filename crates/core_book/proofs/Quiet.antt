@@ -1,8 +1,10 @@
 -- What the counts of a book say of the state after its history.
-use Rattle.std.proofs.Common.{◌≡◌, ◌≢◌, ℕ, zero, suc, ◌<◌, ◌≤◌, ◌↔◌, ◌⊎◌, Bool, true, false, cond, List, [], ◌∷◌, length, get_or, slice_get, Some, IsTrue, refl, sym, ap, ◌∙◌, subst, inl, inr, eqb-true, eq-eqb, arith}
+use Rattle.std.proofs.Common.{◌≡◌, ◌≢◌, ℕ, zero, suc, ◌<◌, ◌≤◌, ◌↔◌, ◌⊎◌, Bool, true, false, cond, List, [], ◌∷◌, length, get_or, slice_get, Some, IsTrue, refl}
+use Rattle.std.proofs.Common.{sym, ap, ◌∙◌, subst, inl, inr, eqb-true, eq-eqb, arith}
 use Rattle.std.specs.Prelude.{◌==◌, count_by}
 use Rattle.std.proofs.lemmas.Bool.{cases_Bool}
 use Rattle.std.proofs.lemmas.Option.{slice_get_within, slice_get_read, slice_get-get_or}
+use Rattle.rt_base.specs.declared.data.ReqNo.{ReqNo}
 use Rattle.rt_base.specs.declared.data.Phase.{Phase}
 use Rattle.rt_base.specs.declared.data.Phase.TheVariants as phase
 use Rattle.rt_base.specs.declared.data.TaskDef.{TaskDef}
@@ -15,11 +17,12 @@ use Rattle.task_machine.proofs.Items.{same_some}
 use Rattle.rt_base.specs.State.{Task, let_go}
 use Rattle.region_deps.specs.Readiness.{IsStartable}
 use Rattle.task_machine.specs.Legal.{final, IsQuiet}
-use Rattle.core_book.specs.Ledger.{Ledger}
+use Rattle.core_book.specs.Ledger.{Ledger, bound_in}
 use Rattle.core_book.specs.Kept.{Shelf, KeepsState, IsBook, state_now, is_zero, waits_at}
 use Rattle.core_book.proofs.Moved.{ledger_of, phase_read}
 use Rattle.core_book.proofs.Held.{same_program, phases_counted}
 use Rattle.core_book.proofs.Questions.{standing, gone_of, can_move_answer}
+use Rattle.core_book.proofs.BoundAfter.{bound_at_task}
 use Rattle.core_book.proofs.CountLemmas.{waits_for_none, zero_counts, count_no_zero}
 
 pub either_waits : (at : Phase) → (at ≡ phase.Waiting) ⊎ (at ≢ phase.Waiting)
@@ -31,8 +34,9 @@ either_waits phase.Returned = inr (λ e. absurd (cc e))
 either_waits phase.Released = inr (λ e. absurd (cc e))
 
 -- a task that was handed out, if it waits, waits for nothing
-pub handed_waits : (p : Program) (x : Exchange) (h : List Bool) (t : ℕ) → get_or h t false ≡ true → waits_at p x h t phase.Waiting ≡ 0
-handed_waits p x h t handed = ap {B = ℕ} (λ b. cond b 0 1) handed
+pub handed_waits : (p : Program) (x : Exchange) (h : List Bool) (t : ℕ) (bound : List ReqNo) → get_or h t false ≡ true
+    → waits_at p x h t phase.Waiting bound ≡ 0
+handed_waits p x h t bound handed = ap {B = ℕ} (λ b. cond b 0 1) handed
 
 handed_if : (h : List Bool) (t : ℕ) → ◌≡◌ {A = ℕ} (cond (get_or h t false) 0 1) 0 → slice_get h t ≡ Some true
 handed_if [] t none = absurd (cc none)
@@ -48,10 +52,13 @@ pub started_answer : (shelf : Shelf) (t r : ℕ) (at : Phase) (def : TaskDef) (t
 started_answer shelf t r at def task book here started read is_def is_task =
     let p : Program = shelf.program in
     let h : List Bool = shelf.ready.handed in
-    let is_r : waits_at p shelf.engine.exchange h t at ≡ r = same_some (sym (book.counted.waits_are t at here) ∙ read) in
-    let own : waits_at p (state_now shelf).exchange h t at ≡ r = ap (λ (e : Exchange). waits_at p e h t at) (sym book.kept.exchange_is) ∙ is_r in
+    let bound : List ReqNo = bound_in (state_now shelf) t in
+    let is_r : waits_at p shelf.engine.exchange h t at bound ≡ r = same_some (sym (book.counted.waits_are t at here) ∙ read) in
+    let own : waits_at p (state_now shelf).exchange h t at task.bound ≡ r =
+    ap (waits_at p (state_now shelf).exchange h t at) (sym (bound_at_task (state_now shelf) t task is_task))
+    ∙ ap (λ (e : Exchange). waits_at p e h t at bound) (sym book.kept.exchange_is) ∙ is_r in
     subst (λ k. (k ≡ 0) ↔ MayMoveAt p (state_now shelf).tasks (state_now shelf).exchange t def task at) own
-    (waits_for_none p (state_now shelf) h t def task at is_def (book.kept.tidy.unbound t task is_task).1 started)
+    (waits_for_none p (state_now shelf) h t def task at is_def started)
 
 -- a waiting task that may start was handed out and counted, or is startable
 waiting_counts : (shelf : Shelf) (t : ℕ) (may : MayMove shelf.program (state_now shelf) t) → IsBook shelf → may.task.phase ≡ phase.Waiting
@@ -68,7 +75,8 @@ waiting_counts shelf t may book waits none nothing =
     let places : length h ≡ length p.tasks.items = k.whole.handed ∙ ap (λ (q : Program). length q.tasks.items) k.of_program in
     elim (cases_Bool (get_or h t false)) [
       | inl handed ↦
-          zero_counts shelf.waits t (book.counted.waits_are t phase.Waiting here ∙ ap Some (handed_waits p shelf.engine.exchange h t handed)) none
+          zero_counts shelf.waits t (book.counted.waits_are t phase.Waiting here
+          ∙ ap Some (handed_waits p shelf.engine.exchange h t (bound_in (state_now shelf) t) handed)) none
       | inr not_yet ↦
           nothing t (
             slice_get-get_or h t false (omega arith) ∙ ap Some not_yet,
@@ -83,7 +91,7 @@ quiet_if shelf book none nothing t may = elim (either_waits may.task.phase) [
   | inl waits ↦ waiting_counts shelf t may book waits none nothing
   | inr started ↦
       let here : slice_get shelf.phases t ≡ Some may.task.phase = phase_read shelf t may.task book.kept may.is_task in
-      let r = waits_at shelf.program shelf.engine.exchange shelf.ready.handed t may.task.phase in
+      let r = waits_at shelf.program shelf.engine.exchange shelf.ready.handed t may.task.phase (bound_in (state_now shelf) t) in
       let read : slice_get shelf.waits t ≡ Some r = book.counted.waits_are t may.task.phase here in
       let is_none : r ≡ 0 = (started_answer shelf t r may.task.phase may.def may.task book here started read may.is_def may.is_task).1 may.enabled in
       zero_counts shelf.waits t (read ∙ ap Some is_none) none

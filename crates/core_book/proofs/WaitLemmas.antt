@@ -1,5 +1,6 @@
 -- What the call and the end of a wait owe, in terms of a book's fields.
-use Rattle.std.proofs.Common.{◌≡◌, ℕ, ◌+◌, ◌*◌, ◌^◌, ◌<◌, ◌≤◌, Bool, true, false, cond, List, [], ◌∷◌, ◌++◌, length, slice_get, slice_set, Some, None, Option, refl, sym, ap, ◌∙◌, subst, arith}
+use Rattle.std.proofs.Common.{◌≡◌, ℕ, ◌+◌, ◌*◌, ◌^◌, ◌<◌, ◌≤◌, Bool, true, false, cond, List, [], ◌∷◌, ◌++◌, length, slice_get, slice_set, Some, None, Option}
+use Rattle.std.proofs.Common.{refl, sym, ap, ◌∙◌, subst, arith}
 use Rattle.std.specs.Prelude.{ℤ}
 use Rattle.rt_base.specs.Listing.{Listing}
 use Rattle.rt_base.specs.declared.data.ReqNo.{ReqNo}
@@ -15,11 +16,11 @@ use Rattle.rt_base.specs.declared.data.Entry.TheVariants as entry
 use Rattle.rt_base.specs.declared.data.TaskDef.{TaskDef}
 use Rattle.rt_base.specs.declared.data.Program.{Program}
 use Rattle.rt_base.specs.Spans.{span_len}
-use Rattle.rt_base.specs.Operations.{task_no, named_requests, nth_at, awaited}
+use Rattle.rt_base.specs.Operations.{task_no, named_requests, awaited}
 use Rattle.rt_base.specs.Precedes.{GoneMore, LetGo}
 use Rattle.rt_base.specs.Exchange.{Exchange}
 use Rattle.rt_base.specs.State.{State, Task, is_released, let_go}
-use Rattle.rt_base.specs.MayMove.{MayMove, AreComplete}
+use Rattle.rt_base.specs.MayMove.{AreComplete}
 use Rattle.rt_base.specs.WellFormed.{OfSpan, MayWrite}
 use Rattle.task_local.specs.Waits.{taken, told, handles_of, status_span_of, statuses_of, stored_by_handles, put_statuses}
 use Rattle.task_local.specs.Standing.{def_of, phase_before}
@@ -27,10 +28,10 @@ use Rattle.task_local.specs.StandsFor.{Record, StandsFor, StandsAs}
 use Rattle.task_machine.specs.Machine.{Moved, move, wait_move, open_count, open_ones, awaited_at}
 use Rattle.task_machine.specs.Legal.{final}
 use Rattle.task_machine.specs.Laws.{is_blocking_call}
-use Rattle.task_machine.specs.Owed.{opened, opened_by}
+use Rattle.task_machine.specs.Owed.{opened_by}
 use Rattle.wait_steps.specs.StatusSpans.{HasPlaces}
-use Rattle.core_book.specs.Ledger.{Ledger, LeavesPending, record_at}
-use Rattle.core_book.specs.Kept.{Shelf, IsBook, IsCounted, IsNumbered, IsWait, KeepsState, is_posting_at, opens, state_now, to_tell, waits_at}
+use Rattle.core_book.specs.Ledger.{Ledger, LeavesPending, bound_in, record_at}
+use Rattle.core_book.specs.Kept.{Shelf, IsBook, IsCounted, IsNumbered, IsAwait, IsWait, KeepsState, is_posting_at, opens, state_now, to_tell, waits_at}
 use Rattle.core_book.proofs.After.{Changes}
 use Rattle.core_book.proofs.Changes.{nth_at-same, wait_changes}
 use Rattle.core_book.proofs.Moved.{IsMoved, gone_kept, ledger_of}
@@ -40,6 +41,7 @@ use Rattle.core_book.proofs.Held.{Held, handed_of, read_at, theirs, told_room, t
 use Rattle.core_book.proofs.Questions.{awaited_is}
 use Rattle.core_book.proofs.CallLemmas.{Before, before, before_may, operation_is}
 use Rattle.core_book.proofs.LeaveLemmas.{Within, enabled_in, stored_def}
+use Rattle.core_book.proofs.BoundAfter.{BoundAsBefore}
 use Rattle.core_book.proofs.CountLemmas.{counted_move}
 use Rattle.core_book.proofs.Numbers.{numbered_on}
 
@@ -99,15 +101,15 @@ pub wait_changed : (shelf : Shelf) (held : Record) (t k : ℕ) (def : TaskDef) �
     (wait_move shelf.program (state_now shelf) t w.it.here.was k (named_requests t w.parts.handles.items)).entry
 wait_changed shelf held t k def kept w =
     wait_changes shelf.program (state_now shelf) t def w.it.here.was k w.parts.handles w.parts.status w.it.here.is_def w.it.here.is_task w.it.at w.parts.is
-    (before_may shelf held t k def (op.Await false w.parts.handles w.parts.status) w.it) kept.tidy
+    (before_may shelf held t k def (op.Await false w.parts.handles w.parts.status) w.it) kept.fits
 
 -- what the engine says of the named requests is what the state says
-count_now : (shelf : Shelf) (reqs : List ReqNo) → KeepsState shelf
+pub count_now : (shelf : Shelf) (reqs : List ReqNo) → KeepsState shelf
     → open_count shelf.engine.program shelf.engine.exchange reqs ≡ open_count shelf.program (state_now shelf).exchange reqs
 count_now shelf reqs kept =
     ap (λ (q : Program). open_count q shelf.engine.exchange reqs) kept.engine_of ∙ ap (λ (e : Exchange). open_count shelf.program e reqs) kept.exchange_is
 
-open_now : (shelf : Shelf) (reqs : List ReqNo) → KeepsState shelf
+pub open_now : (shelf : Shelf) (reqs : List ReqNo) → KeepsState shelf
     → open_ones shelf.engine.program shelf.engine.exchange reqs ≡ open_ones shelf.program (state_now shelf).exchange reqs
 open_now shelf reqs kept =
     ap (λ (q : Program). open_ones q shelf.engine.exchange reqs) kept.engine_of ∙ ap (λ (e : Exchange). open_ones shelf.program e reqs) kept.exchange_is
@@ -160,20 +162,22 @@ wait_moved shelf held t k count def named entries waits listed entry_places open
     }
 
 -- the counts after the call
-pub wait_counted : (shelf : Shelf) (held : Record) (t k count : ℕ) (def : TaskDef) (named : List Handle) (waits : List ℕ) (gone : LetGo) → IsBook shelf
+pub wait_counted : (shelf : Shelf) (held : Record) (t k count : ℕ) (def : TaskDef) (named : List Handle) (waits : List ℕ) (gone : LetGo)
+    (bound : ℕ → List ReqNo) → IsBook shelf
     → (w : Waits shelf held t k def) → named ≡ w.parts.handles.items
     → count ≡ open_count shelf.engine.program shelf.engine.exchange (named_requests t named) → waits ≡ slice_set shelf.waits t count
-    → GoneMore (let_go (state_now shelf).tasks) gone
-    → IsCounted shelf.program gone shelf.ready.handed (slice_set shelf.phases t (phase.In k)) shelf.engine.exchange shelf.unreleased waits
-wait_counted shelf held t k count def named waits gone book w same counted is_ws more =
+    → GoneMore (let_go (state_now shelf).tasks) gone → BoundAsBefore (bound_in (state_now shelf)) bound
+    → IsCounted shelf.program gone shelf.ready.handed (slice_set shelf.phases t (phase.In k)) bound shelf.engine.exchange shelf.unreleased waits
+wait_counted shelf held t k count def named waits gone bound book w same counted is_ws more as_before =
     let p : Program = shelf.program in
     let x : Exchange = shelf.engine.exchange in
-    let number : count ≡ waits_at p x shelf.ready.handed t (phase.In k) =
+    let number : count ≡ waits_at p x shelf.ready.handed t (phase.In k) (bound t) =
     counted ∙ ap (λ (q : Program). open_count q x (named_requests t named)) book.kept.engine_of
     ∙ ap (λ (z : List Handle). open_count p x (named_requests t z)) same ∙ sym (ap (open_count p x) (wait_awaits t k def w.parts))
     ∙ sym (ap (λ (o : Option TaskDef). open_count p x (awaited_at t o (Some (phase.In k)))) w.it.here.is_def) in
-    counted_move p (let_go (state_now shelf).tasks) gone shelf.ready.handed shelf.phases x shelf.unreleased shelf.unreleased shelf.waits waits t (phase.At k)
-    (phase.In k) book.counted more (read_at shelf held t def (phase.At k) (phase.At k) book.kept w.it.here w.it.at) refl
+    counted_move p (let_go (state_now shelf).tasks) gone shelf.ready.handed shelf.phases (bound_in (state_now shelf)) bound x shelf.unreleased
+    shelf.unreleased shelf.waits waits t (phase.At k) (phase.In k) book.counted more
+    (read_at shelf held t def (phase.At k) (phase.At k) book.kept w.it.here w.it.at) refl (λ u other. as_before u)
     (is_ws ∙ ap (slice_set shelf.waits t) number) refl
 
 pub wait_numbered : (shelf : Shelf) (held : Record) (t k : ℕ) (def : TaskDef) → IsBook shelf → Waits shelf held t k def
@@ -220,11 +224,22 @@ waits_in (Some (op.Post how span peer tag comm status)) blocking posts = absurd 
 waits_in (Some (op.Await true handles status)) blocking posts = absurd (cc blocking)
 waits_in (Some (op.Await false handles status)) blocking posts = refl
 
+-- a wait, now or later
+waits_some_time : (o : Option Op) → IsWait o → IsAwait o
+waits_some_time None waits = absurd (cc waits)
+waits_some_time (Some (op.Compute kind dst left right value step)) waits = absurd (cc waits)
+waits_some_time (Some (op.Post how span peer tag comm status)) waits = absurd (cc waits)
+waits_some_time (Some (op.Await later handles status)) waits = refl
+
 pub is_wait : (shelf : Shelf) (held : Record) (t k : ℕ) (def : TaskDef) → Within shelf held t k def
     → is_posting_at (slice_get (def_of held.program held.task).body.items k) ≡ false → IsWait (slice_get def.body.items k)
 is_wait shelf held t k def w other =
     waits_in (slice_get def.body.items k) w.blocking
     (subst (λ (d : TaskDef). is_posting_at (slice_get d.body.items k) ≡ false) w.here.held_def other)
+
+pub is_await : (shelf : Shelf) (held : Record) (t k : ℕ) (def : TaskDef) → Within shelf held t k def
+    → is_posting_at (slice_get (def_of held.program held.task).body.items k) ≡ false → IsAwait (slice_get def.body.items k)
+is_await shelf held t k def w other = waits_some_time (slice_get def.body.items k) (is_wait shelf held t k def w other)
 
 pub in_wait : (shelf : Shelf) (held : Record) (t k : ℕ) (def : TaskDef) → Within shelf held t k def
     → is_posting_at (slice_get (def_of held.program held.task).body.items k) ≡ false → InWait shelf held t k def
@@ -256,7 +271,7 @@ few_named shelf held t k def at kept w h same =
     omega arith
 
 -- the cells of its statuses are declared
-places_of : (p : Program) (def : TaskDef) (status : Option Span) (n : ℕ) → OfSpan (λ cells. MayWrite p def cells × (span_len cells ≡ 4 * n)) status
+pub places_of : (p : Program) (def : TaskDef) (status : Option Span) (n : ℕ) → OfSpan (λ cells. MayWrite p def cells × (span_len cells ≡ 4 * n)) status
     → HasPlaces def status n
 places_of p def None n allowed = tt
 places_of p def (Some cells) n allowed = (allowed.0.declared, omega (arith, allowed.1))
@@ -291,7 +306,8 @@ wait_declared shelf held stored t k def copy span told_now named kept w same wen
     let own : def_of stored.program stored.task ≡ def = stored_def held stored def copy w.in_it.here.held_def went in
     let whose : w.parts.status ≡ span = sym (ap status_span_of w.parts.is) ∙ read in
     let long : length w.parts.handles.items ≡ length told_now =
-    sym (ap (λ (z : List Status). length z) tells ∙ statuses_each shelf.engine.program shelf.engine.exchange t named ∙ ap (λ (z : List Handle). length z) same) in
+    sym (ap (λ (z : List Status). length z) tells ∙ statuses_each shelf.engine.program shelf.engine.exchange t named
+    ∙ ap (λ (z : List Handle). length z) same) in
     subst (λ (d : TaskDef). HasPlaces d span (length told_now)) (sym own)
     (subst (λ (o : Option Span). HasPlaces def o (length told_now)) whose
     (subst (λ (n : ℕ). HasPlaces def w.parts.status n) long (wait_places shelf held t k def kept w)))

@@ -1,5 +1,6 @@
 -- How a book keeps the state after its history. No public clause cites this module.
-use Rattle.std.specs.Prelude.{◌≡◌, ◌≢◌, ℕ, ◌+◌, ◌-◌, ◌<◌, ◌≤◌, Bool, true, false, List, [], ◌∷◌, length, drop, sum_by, replicate, slice_get, slice_set, slice_index_or, count_by, ◌==◌, Option, Some, None, ℤ, not, ◌&&◌, ⊤, if◌then◌else◌}
+use Rattle.std.specs.Prelude.{◌≡◌, ◌≢◌, ℕ, ◌+◌, ◌-◌, ◌<◌, ◌≤◌, Bool, true, false, List, [], ◌∷◌, length, drop, sum_by, replicate, slice_get, slice_set}
+use Rattle.std.specs.Prelude.{slice_index_or, count_by, ◌==◌, Option, Some, None, ℤ, not, ◌&&◌, ◌||◌, IsSome, Contains, ⊤, if◌then◌else◌}
 use Rattle.std.specs.List.{list_any}
 use Rattle.rt_base.specs.declared.data.ReqNo.{ReqNo}
 use Rattle.rt_base.specs.declared.data.Phase.{Phase}
@@ -14,7 +15,8 @@ use Rattle.rt_base.specs.declared.data.Entry.{Entry}
 use Rattle.rt_base.specs.declared.data.TaskDef.{TaskDef}
 use Rattle.rt_base.specs.declared.data.Program.{Program}
 use Rattle.rt_base.specs.Layout.{memory_len}
-use Rattle.rt_base.specs.Operations.{request, is_receive, posting_of, postings, by_parts, by_parts_of}
+use Rattle.rt_base.specs.Operations.{request, is_receive, named_requests, nth_at, posting_of, postings, by_parts, by_parts_of}
+use Rattle.rt_base.specs.MayMove.{AreComplete}
 use Rattle.rt_base.specs.Matching.{same_request}
 use Rattle.rt_base.specs.Precedes.{LetGo, MayStart}
 use Rattle.rt_base.specs.Exchange.{Exchange}
@@ -23,9 +25,14 @@ use Rattle.rt_base.specs.State.{State, Task, is_released, let_go}
 use Rattle.rt_base.specs.WellFormed.{WellFormed}
 use Rattle.match_engine.specs.Switch.{Switch}
 use Rattle.region_deps.specs.Readiness.{Readiness, IsWhole}
+use Rattle.task_local.specs.Waits.{handles_of}
+use Rattle.tidy_runs.specs.Tidy.{bindings}
 use Rattle.task_local.specs.declared.standing.At.{At}
 use Rattle.task_local.specs.declared.standing.At.TheVariants as at
+use Rattle.wait_steps.specs.MarkedRows.{is_marked, mark_of}
+use Rattle.core_book.specs.Ledger.{bound_in}
 use Rattle.core_book.specs.declared.posting.Posting.{Posting}
+use Rattle.core_book.specs.declared.telling.Told.{Told}
 use Rattle.task_machine.specs.Machine.{awaited_at, open_count}
 use Rattle.task_machine.specs.Course.{moves_left, posted_by_phase}
 use Rattle.task_machine.specs.Legal.{IsLegal, final, phases_of}
@@ -46,6 +53,9 @@ pub record Shelf : Type 0 where
   pub unreleased : ℕ
   pub waits : List ℕ
   pub posted : List ℕ
+  pub marks : List (List Bool)
+  pub bound : List ℕ
+  pub incomplete : List ℕ
   pub opened : List ReqNo
   pub entry_places : ℕ
   pub status_places : ℕ
@@ -113,12 +123,11 @@ IsInBlocking def phase.Ended = ⊤
 IsInBlocking def phase.Returned = ⊤
 IsInBlocking def phase.Released = ⊤
 
--- the tasks are those of the program, none has bound a request, each knows its place in its body, a task is only in operations that block,
+-- the tasks are those of the program, each knows its place in its body, a task is only in operations that block,
 -- and what is posted is what the tasks have posted
-pub record IsTidy (program : Program) (state : State) : Type 0 where
+pub record FitsProgram (program : Program) (state : State) : Type 0 where
   pub counted : length state.tasks ≡ length program.tasks.items
   pub cells : length state.memory ≡ memory_len program
-  pub unbound : (t : ℕ) (task : Task) → slice_get state.tasks t ≡ Some task → (task.named ≡ []) × (task.bound ≡ [])
   pub blocking : (t : ℕ) (def : TaskDef) (task : Task) → slice_get program.tasks.items t ≡ Some def → slice_get state.tasks t ≡ Some task
       → IsInBlocking def task.phase
   pub posted : (t n : ℕ) (def : TaskDef) (task : Task) → slice_get program.tasks.items t ≡ Some def → slice_get state.tasks t ≡ Some task
@@ -142,7 +151,7 @@ pub record KeepsState (shelf : Shelf) : Type 0 where
   pub notices_are : shelf.notices ≡ (state_now shelf).notices
   pub opened_are : shelf.opened ≡ last_opened shelf.program shelf.entries
   pub gone_is : shelf.ready.gone ≡ let_go (state_now shelf).tasks
-  pub tidy : IsTidy shelf.program (state_now shelf)
+  pub fits : FitsProgram shelf.program (state_now shelf)
   pub begun : (t : ℕ) (at : Phase) → slice_get shelf.phases t ≡ Some at → at ≢ phase.Waiting → slice_get shelf.ready.handed t ≡ Some true
   pub of_program : shelf.ready.program ≡ shelf.program
   pub whole : IsWhole shelf.ready
@@ -157,24 +166,35 @@ is_zero n = n == 0
 abbrev pub is_unreleased : Phase → Bool
 is_unreleased at = not (is_released at)
 
--- for how many things a task that stands there waits before its next move: to be handed out, for the requests that it awaits,
--- or for what never comes
-abbrev pub waits_at : Program → Exchange → List Bool → ℕ → Phase → ℕ
-waits_at program exchange handed t phase.Waiting = if slice_index_or handed t false then 0 else 1
-waits_at program exchange handed t (phase.At k) = 0
-waits_at program exchange handed t (phase.In k) = open_count program exchange (awaited_at t (slice_get program.tasks.items t) (Some (phase.In k)))
-waits_at program exchange handed t phase.Ended = 0
-waits_at program exchange handed t phase.Returned = 0
-waits_at program exchange handed t phase.Released = 1
+-- for how many things a task that stands there and has bound these requests waits before its next move: to be handed out, for the requests that it
+-- awaits, once it has returned for those that it has bound, or for what never comes
+abbrev pub waits_at : Program → Exchange → List Bool → ℕ → Phase → List ReqNo → ℕ
+waits_at program exchange handed t phase.Waiting bound = if slice_index_or handed t false then 0 else 1
+waits_at program exchange handed t (phase.At k) bound = 0
+waits_at program exchange handed t (phase.In k) bound =
+    open_count program exchange (awaited_at t (slice_get program.tasks.items t) (Some (phase.In k)))
+waits_at program exchange handed t phase.Ended bound = 0
+waits_at program exchange handed t phase.Returned bound = open_count program exchange bound
+waits_at program exchange handed t phase.Released bound = 1
 
 -- what a book counts: the tasks that are not released, and for each task for how many things it waits. A task that was handed out may start,
 -- as the tasks have let go of so much
-pub record IsCounted (program : Program) (gone : LetGo) (handed : List Bool) (phases : List Phase) (exchange : Exchange) (unreleased : ℕ)
-    (waits : List ℕ) : Type 0 where
+pub record IsCounted (program : Program) (gone : LetGo) (handed : List Bool) (phases : List Phase) (bound : ℕ → List ReqNo) (exchange : Exchange)
+    (unreleased : ℕ) (waits : List ℕ) : Type 0 where
   pub unreleased_is : unreleased ≡ count_by is_unreleased phases
   pub long : length waits ≡ length phases
-  pub waits_are : (t : ℕ) (at : Phase) → slice_get phases t ≡ Some at → slice_get waits t ≡ Some (waits_at program exchange handed t at)
+  pub waits_are : (t : ℕ) (at : Phase) → slice_get phases t ≡ Some at → slice_get waits t ≡ Some (waits_at program exchange handed t at (bound t))
   pub let_in : (t : ℕ) → slice_get handed t ≡ Some true → MayStart program gone t
+
+-- what a book keeps of the requests that tasks have bound: a mark for each, how many each task has bound, and how many of these are incomplete
+pub record IsBinding (program : Program) (bound : ℕ → List ReqNo) (exchange : Exchange) (marks : List (List Bool))
+    (numbers incomplete : List ℕ) : Type 0 where
+  pub marked : (req : ReqNo) → is_marked marks req ≡ list_any (same_request req) (bound req.task.0)
+  pub have : (req : ReqNo) → IsSome (posting_of program req) → IsSome (mark_of marks req)
+  pub long : length numbers ≡ length program.tasks.items
+  pub numbers_are : (t : ℕ) → t < length program.tasks.items → slice_get numbers t ≡ Some (length (bound t))
+  pub long_incomplete : length incomplete ≡ length program.tasks.items
+  pub incomplete_are : (t : ℕ) → t < length program.tasks.items → slice_get incomplete t ≡ Some (open_count program exchange (bound t))
 
 -- how many requests each task has posted, as it stands
 pub record IsNumbered (program : Program) (phases : List Phase) (posted : List ℕ) : Type 0 where
@@ -187,11 +207,13 @@ abbrev pub one_less_for : List ℕ → List ReqNo → List ℕ
 one_less_for waits [] = waits
 one_less_for waits (req ∷ reqs) = one_less_for (slice_set waits req.task.0 (slice_index_or waits req.task.0 0 - 1)) reqs
 
--- a book: its insides are the state after its history, and its numbers count what that state says
+-- a book: its insides are the state after its history, and its numbers and marks are what that state says
 pub record IsBook (shelf : Shelf) : Type 0 where
   pub kept : KeepsState shelf
-  pub counted : IsCounted shelf.program (let_go (state_now shelf).tasks) shelf.ready.handed shelf.phases shelf.engine.exchange shelf.unreleased shelf.waits
+  pub counted : IsCounted shelf.program (let_go (state_now shelf).tasks) shelf.ready.handed shelf.phases (bound_in (state_now shelf)) shelf.engine.exchange
+      shelf.unreleased shelf.waits
   pub numbered : IsNumbered shelf.program shelf.phases shelf.posted
+  pub binding : IsBinding shelf.program (bound_in (state_now shelf)) shelf.engine.exchange shelf.marks shelf.bound shelf.incomplete
 
 -- the task is before a call
 abbrev pub IsCallAt : At → Type 0
@@ -217,9 +239,17 @@ IsBlockedAt at.Released = ⊥
 abbrev pub is_posting_at : Option Op → Bool
 is_posting_at operation = by_parts_of false (λ posted. true) (λ waited. false) operation
 
+-- the operation is a wait, now or later
+abbrev pub IsAwait : Option Op → Type 0
+IsAwait operation = by_parts_of false (λ posted. false) (λ waited. true) operation ≡ true
+
 -- the operation waits for what it names, before it goes on
 abbrev pub IsWait : Option Op → Type 0
 IsWait operation = by_parts_of false (λ posted. false) (λ waited. not waited.later) operation ≡ true
+
+-- the operation binds what it names, and goes on
+abbrev pub IsBind : Option Op → Type 0
+IsBind operation = by_parts_of false (λ posted. false) (λ waited. waited.later) operation ≡ true
 
 -- the operation is this posting
 pub record PostsAs (operation : Option Op) (posting : Posting) : Type 0 where
@@ -237,8 +267,36 @@ abbrev pub awaits_now : Program → List Phase → ReqNo → Bool
 awaits_now program phases req =
     list_any (same_request req) (awaited_at req.task.0 (slice_get program.tasks.items req.task.0) (slice_get phases req.task.0))
 
--- the notice of the request that a posting completed beside its own
-abbrev pub noticed_now : Program → List Phase → Option ReqNo → List ReqNo
-noticed_now program phases None = []
-noticed_now program phases (Some req) =
-    if not (completes_alone program.eager (posting_of program req)) && awaits_now program phases req then req ∷ [] else []
+-- whether the task of the request has returned
+abbrev pub is_returned : Option Phase → Bool
+is_returned None = false
+is_returned (Some phase.Waiting) = false
+is_returned (Some (phase.At k)) = false
+is_returned (Some (phase.In k)) = false
+is_returned (Some phase.Ended) = false
+is_returned (Some phase.Returned) = true
+is_returned (Some phase.Released) = false
+
+-- whether the task of the request, where it is marked if it is bound, makes its next move only when the request is complete
+abbrev pub holds_now : Program → List Phase → List (List Bool) → ReqNo → Bool
+holds_now program phases marks req = awaits_now program phases req || (is_marked marks req && is_returned (slice_get phases req.task.0))
+
+-- whether a task is told of the request
+abbrev pub expects_now : Program → List Phase → List (List Bool) → ReqNo → Bool
+expects_now program phases marks req = is_marked marks req || awaits_now program phases req
+
+-- the request that a posting completed beside its own, where it was incomplete before and this is said of it
+abbrev pub completed_now : Program → (ReqNo → Bool) → Option ReqNo → List ReqNo
+completed_now program said None = []
+completed_now program said (Some req) = if not (completes_alone program.eager (posting_of program req)) && said req then req ∷ [] else []
+
+-- the request of what was told, where this holds of it
+abbrev pub told_requests : (Told → Bool) → Option Told → List ReqNo
+told_requests said None = []
+told_requests said (Some told) = if said told then told.req ∷ [] else []
+
+-- what each operation of the task that binds names is complete
+abbrev pub AreReceived : Program → Exchange → ℕ → TaskDef → Type 0
+AreReceived program exchange t def =
+    (k : ℕ) → Contains (bindings 0 def.body.items) k
+    → AreComplete program exchange (named_requests t (handles_of (nth_at def k) (slice_get def.body.items k)))

@@ -1,6 +1,7 @@
 -- What contracts see of a book, and what each of its moves does.
-use Rattle.std.specs.Prelude.{◌≡◌, ℕ, ◌+◌, ◌^◌, ◌<◌, List, [], ◌∷◌, ◌++◌, Bool, false, replicate, length, slice_get, Option, Some, None, option_map, unwrap_or, ⊤, true, if◌then◌else◌}
-use Rattle.rt_base.specs.declared.data.Op.{Op}
+use Rattle.std.specs.Prelude.{◌≡◌, ℕ, ◌+◌, ◌^◌, ◌<◌, List, [], ◌∷◌, ◌++◌, Bool, false, replicate, length, slice_get, Some, option_map, unwrap_or, ⊤}
+use Rattle.std.specs.Prelude.{if◌then◌else◌}
+use Rattle.rt_base.specs.declared.data.ReqNo.{ReqNo}
 use Rattle.rt_base.specs.declared.data.Phase.{Phase}
 use Rattle.rt_base.specs.declared.data.Phase.TheVariants as phase
 use Rattle.rt_base.specs.declared.data.TaskDef.{TaskDef}
@@ -8,14 +9,13 @@ use Rattle.rt_base.specs.declared.data.Status.{Status}
 use Rattle.rt_base.specs.declared.data.Entry.{Entry}
 use Rattle.rt_base.specs.declared.data.Entry.TheVariants as entry
 use Rattle.rt_base.specs.declared.data.Program.{Program}
-use Rattle.rt_base.specs.Operations.{by_parts_of}
 use Rattle.rt_base.specs.Precedes.{MayStart}
 use Rattle.rt_base.specs.State.{State, Task, let_go}
 use Rattle.task_local.specs.Regions.{loaded}
 use Rattle.task_local.specs.Waits.{taken, taken_at_release}
 use Rattle.task_local.specs.StandsFor.{Record, StandsFor}
 use Rattle.task_local.specs.Standing.{def, phase_before}
-use Rattle.task_machine.specs.Machine.{move}
+use Rattle.task_machine.specs.Machine.{move, poll, bound_at, or_none}
 use Rattle.task_machine.specs.Legal.{final}
 use Rattle.task_machine.specs.Laws.{is_blocking_call}
 
@@ -41,9 +41,13 @@ new_ledger program workers = record {
 abbrev pub IsReady : Ledger → ℕ → Type 0
 IsReady book t = (slice_get book.handed t ≡ Some false) × MayStart book.program (let_go (final book.program book.history).tasks) t
 
--- the operations by which task t bound requests, none where there is no such task
-abbrev pub named_at : List Task → ℕ → List ℕ
-named_at tasks t = unwrap_or (option_map (λ (task : Task). task.named) (slice_get tasks t)) []
+-- the numbers of the operations whose requests the release of task t takes, in order, none where there is no such task (TAMPI, TAMPI_Iwait)
+abbrev pub named_in : List Task → ℕ → List ℕ
+named_in tasks t = unwrap_or (option_map (λ (task : Task). task.named) (slice_get tasks t)) []
+
+-- the requests that a task has bound in a state, none where there is no such task (TAMPI, TAMPI_Iwait)
+abbrev pub bound_in : State → ℕ → List ReqNo
+bound_in state t = or_none (bound_at state.tasks t)
 
 -- where a call of operation k leaves its record: in the operation where it blocks, and else before the next one
 abbrev pub phase_after_call : TaskDef → ℕ → Phase
@@ -57,7 +61,7 @@ record_at program state def held (phase.In k) =
     record held { phase = phase_before def (k + 1); copy = taken program state.exchange held.task def k held.copy }
 record_at program state def held phase.Ended = record held { phase = phase.Returned }
 record_at program state def held phase.Returned =
-    record held { phase = phase.Released; copy = taken_at_release program state.exchange held.task def (named_at state.tasks held.task) held.copy }
+    record held { phase = phase.Released; copy = taken_at_release program state.exchange held.task def (named_in state.tasks held.task) held.copy }
 record_at program state def held phase.Released = held
 
 -- the same, from where the record stands
@@ -78,18 +82,17 @@ pub record MakesMove (old new : Ledger) (before after : Record) : Type 0 where
   pub stands : StandsFor old.program after (final old.program new.history)
   pub left : after ≡ record_after old.program (final old.program old.history) before
 
--- the operation binds what it names and goes on (TAMPI, TAMPI_Iwait and TAMPI_Iwaitall)
-abbrev pub is_binding : Option Op → Bool
-is_binding operation = by_parts_of false (λ posted. false) (λ waited. waited.later) operation
-
--- the task is before an operation that binds
-abbrev pub is_at_binding : TaskDef → Phase → Bool
-is_at_binding def phase.Waiting = false
-is_at_binding def (phase.At k) = is_binding (slice_get def.body.items k)
-is_at_binding def (phase.In k) = false
-is_at_binding def phase.Ended = false
-is_at_binding def phase.Returned = false
-is_at_binding def phase.Released = false
+-- the book has taken the first notice for this poller: the state is that after the poll, so tasks, exchange, memory and statuses are as before
+-- (TAMPI, completion by polling)
+pub record TakesNotice (old new : Ledger) (poller : ℕ) (req : ReqNo) : Type 0 where
+  pub entry : new.history ≡ old.history ++ entry.Poll poller req ∷ []
+  pub first : (final old.program old.history).notices ≡ req ∷ (final old.program new.history).notices
+  pub state : final old.program new.history ≡ (poll (final old.program old.history) poller).state
+  pub program : new.program ≡ old.program
+  pub workers : new.workers ≡ old.workers
+  pub statuses : new.statuses ≡ old.statuses
+  pub handed : new.handed ≡ old.handed
+  pub short : length new.history < 2 ^ 32
 
 -- the task is in an operation
 abbrev pub IsInOperation : Phase → Type 0

@@ -8,28 +8,31 @@ ghost use Rattle.task_local.specs.StandsFor.{StandsFor};
 ghost use Rattle.task_machine.specs.Legal.{final, phases_of, IsLegal};
 ghost use Rattle.task_local.specs.Standing.{def, packed_next, IsAtCall};
 ghost use Rattle.task_machine.specs.Machine.{move};
-ghost use Rattle.core_book.specs.Ledger.{MakesMove, IsReady, IsInOperation, LeavesPending, is_at_binding, new_ledger};
+ghost use Rattle.core_book.specs.Ledger.{MakesMove, IsReady, IsInOperation, LeavesPending, TakesNotice, new_ledger};
 
 mod calls;
 mod leaves;
+mod polls;
 mod questions;
+mod releases;
 
 use crate::counts::Counts;
+use crate::fresh::{fresh_lists, fresh_numbers};
 use crate::places::{blocked_place, call_place};
 use crate::posted::Posted;
 use crate::posting::posting_at;
-use crate::room::{
-    all_waiting, cell_count, count_of, longest_wait, most_moves, most_postings, most_told, note,
-    zeros,
-};
+use crate::room::note;
 use crate::tasks::{phase_before, stop, task_of};
+use crate::waits::binds_at;
 use match_engine::Engine;
 use region_deps::Deps;
 use rt_base::{Cells, Entry, History, Listed, Phase, Phases, Program, ReqNo, Status, TaskNo};
 use std::alloc::{AllocError, Global};
+use std::collections::VecDeque;
 use std::marker::Model;
 use std::snapshot::Snapshot;
 use task_local::TaskRec;
+use wait_steps::Marks;
 
 /// What is left of a book: the history, and the cells and the phases of the state after it.
 #[derive(Debug, Drop)]
@@ -49,7 +52,7 @@ pub struct Book {
     engine: Engine,
     memory: Vec<i64>,
     phases: Vec<Phase>,
-    notices: Vec<ReqNo>,
+    notices: VecDeque<ReqNo>,
     entries: Vec<Entry>,
     statuses: Vec<Status>,
     // How many tasks are not released.
@@ -58,12 +61,19 @@ pub struct Book {
     waits: Counts,
     // How many requests each task has posted.
     posted: Posted,
+    // Which requests are bound to their tasks.
+    marks: Marks,
+    // How many requests each task has bound.
+    bound: Counts,
+    // How many of these are incomplete.
+    incomplete: Counts,
     // The requests that the last move opened.
     opened: Vec<ReqNo>,
 }
 
 impl Model for Book {
     ghost use Rattle.std.specs.Prelude.{vec_capacity};
+    ghost use Rattle.std.specs.VecDeque.{deque_capacity};
     ghost use Rattle.core_book.specs.Ledger.{Ledger};
     ghost use Rattle.core_book.specs.Kept.{IsBook};
 
@@ -90,10 +100,13 @@ impl Model for Book {
       unreleased = b.unreleased;
       waits = b.waits;
       posted = b.posted;
+      marks = b.marks;
+      bound = b.bound;
+      incomplete = b.incomplete;
       opened = b.opened.items;
       entry_places = vec_capacity b.entries;
       status_places = vec_capacity b.statuses;
-      notice_places = vec_capacity b.notices;
+      notice_places = deque_capacity b.notices;
       opened_places = vec_capacity b.opened;
     }) };
 }
@@ -105,23 +118,25 @@ impl Book {
         requires workers { 1 ≤ workers }
         ensures { IfOk result (λ book. book ≡ new_ledger prog.now workers) }
     {
-        let tasks = prog.tasks.as_slice();
-        let moves = most_moves(tasks);
-        let postings = most_postings(tasks);
+        let lists = fresh_lists(alloc, prog)?;
+        let numbers = fresh_numbers(alloc, prog)?;
         Ok(Book {
             program: Snapshot::of(prog),
             workers,
             deps: Deps::build(alloc, prog)?,
             engine: Engine::build(alloc, prog)?,
-            memory: zeros(alloc, cell_count(prog.lens.as_slice()) as usize)?,
-            phases: all_waiting(alloc, prog.tasks.len())?,
-            notices: Vec::with_capacity(alloc, postings)?,
-            entries: Vec::with_capacity(alloc, moves + postings)?,
-            statuses: Vec::with_capacity(alloc, most_told(tasks))?,
+            memory: lists.memory,
+            phases: lists.phases,
+            notices: lists.notices,
+            entries: lists.entries,
+            statuses: lists.statuses,
             unreleased: prog.tasks.len(),
-            waits: Counts::ones(alloc, prog.tasks.len())?,
-            posted: Posted::none(alloc, prog.tasks.len())?,
-            opened: Vec::with_capacity(alloc, longest_wait(tasks))?,
+            waits: numbers.waits,
+            posted: numbers.posted,
+            marks: numbers.marks,
+            bound: numbers.bound,
+            incomplete: numbers.incomplete,
+            opened: lists.opened,
         })
     }
 
@@ -166,7 +181,6 @@ impl Book {
         requires same { prog.now ≡ self.old.program }
         requires stands { StandsFor prog.now rec.old (final prog.now self.old.history) }
         requires before { IsAtCall (def rec.old) rec.old.phase }
-        requires unbinding { is_at_binding (def rec.old) rec.old.phase ≡ false }
         requires packed { cells.items ≡ packed_next (def rec.old) rec.old.phase rec.old.copy }
         ensures moves { MakesMove self.old self.new rec.old rec.new }
         ensures pending { LeavesPending (move prog.now (final prog.now self.old.history) rec.old.task).entry result }
@@ -174,6 +188,7 @@ impl Book {
         let k = call_place(rec.at(prog));
         match posting_at(task_of(prog, rec.task()), k) {
             Some(posting) => self.post(prog, rec, k, posting, cells),
+            None if binds_at(task_of(prog, rec.task()), k) => self.bind(prog, rec, k),
             None => self.wait(prog, rec, k),
         }
     }
@@ -193,53 +208,6 @@ impl Book {
             Some(posting) => self.leave_posting(prog, rec, k, posting),
             None => self.leave_wait(prog, rec, k),
         }
-    }
-
-    /// The task returns: its body has ended. Takes no memory.
-    pub fn ret(&mut self, prog: &Program, rec: &mut TaskRec)
-        requires well_formed { WellFormed prog.now }
-        requires same { prog.now ≡ self.old.program }
-        requires stands { StandsFor prog.now rec.old (final prog.now self.old.history) }
-        requires ended { rec.old.phase ≡ phase.Ended }
-        ensures { MakesMove self.old self.new rec.old rec.new }
-    {
-        let phases = &mut self.phases;
-        let task = rec.task();
-        self.opened.clear();
-        phases[task.0 as usize] = Phase::Returned;
-        rec.go(prog, Phase::Returned);
-        note(&mut self.entries, Entry::Return { task });
-    }
-
-    /// The task lets go of its accesses: its written cells are put back, and the tasks that waited for it may start.
-    /// Takes no memory. Its time grows with the task's accesses and cells, and with the links of its accesses, and of its group where it is the
-    /// last of that.
-    pub fn release(&mut self, prog: &Program, rec: &mut TaskRec)
-        requires well_formed { WellFormed prog.now }
-        requires same { prog.now ≡ self.old.program }
-        requires stands { StandsFor prog.now rec.old (final prog.now self.old.history) }
-        requires returned { rec.old.phase ≡ phase.Returned }
-        requires enabled { MayMove prog.now (final prog.now self.old.history) rec.old.task }
-        ensures { MakesMove self.old self.new rec.old rec.new }
-    {
-        let memory = &mut self.memory;
-        let task = rec.task();
-        self.opened.clear();
-        rec.save(prog, memory);
-        rec.go(prog, Phase::Released);
-        self.phases[task.0 as usize] = Phase::Released;
-        self.unreleased -= 1;
-        self.waits.set(task.0, 1);
-        self.deps.release(task);
-        let from = count_of(&self.statuses);
-        note(
-            &mut self.entries,
-            Entry::Release {
-                task,
-                from,
-                count: 0,
-            },
-        );
     }
 
     /// The history, with the cells and the phases of the state after it. Takes no memory.
@@ -263,6 +231,9 @@ impl Book {
             unreleased: _,
             waits: _,
             posted: _,
+            marks: _,
+            bound: _,
+            incomplete: _,
             opened: _,
         } = self;
         BookEnd {

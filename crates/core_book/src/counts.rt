@@ -1,6 +1,7 @@
 //! A number for each task, and how many of the numbers are 0.
 
-ghost use Rattle.std.specs.Prelude.{◌≡◌, ◌<◌, ◌↔◌, IsTrue, List, ℕ, length, count_by, replicate, slice_get, slice_set, slice_index_or, Some, IfOk, cond};
+ghost use Rattle.std.specs.Prelude.{◌≡◌, ◌+◌, ◌-◌, ◌^◌, ◌<◌, ◌↔◌, IsTrue, List, ℕ, length, count_by, replicate, slice_get, slice_set, slice_index_or, Some};
+ghost use Rattle.std.specs.Prelude.{IfOk, cond};
 ghost use Rattle.core_book.specs.Kept.{is_zero};
 
 use std::alloc::{AllocError, Global};
@@ -35,6 +36,16 @@ impl Counts {
         })
     }
 
+    /// The number 0 for each of so many tasks.
+    pub fn nothing(alloc: Global, tasks: usize) -> Result<Counts, AllocError>
+        ensures { IfOk result (λ counts. counts ≡ replicate tasks 0) }
+    {
+        Ok(Counts {
+            numbers: vec![in alloc; 0; tasks]?,
+            zeros: tasks,
+        })
+    }
+
     /// The number of the task.
     pub fn at(&self, task: u32) -> u32
         requires { task < length self.now }
@@ -58,6 +69,25 @@ impl Counts {
         ensures { IsTrue result ↔ (count_by is_zero self.now ≡ 0) }
     {
         self.zeros == 0
+    }
+
+    /// The task has one less, where it has any.
+    pub fn lower(&mut self, task: u32)
+        requires { task < length self.old }
+        ensures { self.new ≡ slice_set self.old task (slice_index_or self.old task 0 - 1) }
+    {
+        let before = self.at(task);
+        self.set(task, before.saturating_sub(1));
+    }
+
+    /// The task has so many more.
+    pub fn raise(&mut self, task: u32, more: u32)
+        requires within { task < length self.old }
+        requires few { slice_index_or self.old task 0 + more < 2 ^ 32 }
+        ensures { self.new ≡ slice_set self.old task (slice_index_or self.old task 0 + more) }
+    {
+        let before = self.at(task);
+        self.set(task, before + more);
     }
 }
 

@@ -2,12 +2,15 @@
 #![tactic(auto)]
 
 mod book;
+mod bound;
 mod counts;
+mod fresh;
 mod places;
 mod posted;
 mod posting;
 mod room;
 mod tasks;
+mod telling;
 mod waits;
 
 pub use book::{Book, BookEnd};

@@ -1,6 +1,7 @@
-//! The postings of a body, and what they do to the engine, the notices and the statuses.
+//! The postings of a body, and what they do to the engine and the statuses.
 
-ghost use Rattle.std.specs.Prelude.{◌≡◌, ◌≤◌, ◌<◌, ◌+◌, ◌-◌, ◌^◌, ◌++◌, [], ◌∷◌, true, false, not, ◌&&◌, length, map, slice_get, slice_set, slice_index_or, vec_capacity, Some, IsSome, IfNone, IfSome, if◌then◌else◌, ℕ};
+ghost use Rattle.std.specs.Prelude.{◌≡◌, ◌≤◌, ◌<◌, ◌+◌, ◌-◌, ◌^◌, ◌++◌, [], ◌∷◌, true, false, not, ◌&&◌, length, map, slice_get, slice_set, slice_index_or};
+ghost use Rattle.std.specs.Prelude.{vec_capacity, Some, IsSome, IfNone, IfSome, if◌then◌else◌, ℕ};
 ghost use Rattle.std.specs.List.{list_any};
 ghost use Rattle.rt_base.specs.Matching.{same_request};
 ghost use Rattle.rt_base.specs.declared.data.Phase.TheVariants as phase;
@@ -14,14 +15,12 @@ ghost use Rattle.task_local.specs.Standing.{phase_before, def};
 ghost use Rattle.task_local.specs.Waits.{status_cells, put_statuses};
 ghost use Rattle.rt_base.specs.Spans.{span_len};
 ghost use Rattle.rt_base.specs.WellFormed.{WellFormed, IsDeclared};
-ghost use Rattle.core_book.specs.Kept.{IsNumbered, PostsAs, is_posting_at, told_now, awaits_now, noticed_now, one_less_for};
+ghost use Rattle.core_book.specs.Kept.{PostsAs, is_posting_at, told_now};
 
-use crate::counts::Counts;
-use crate::posted::Posted;
 use crate::room::note;
-use crate::tasks::{phase_before, stop, task_of};
+use crate::tasks::{phase_before, stop};
 use match_engine::Engine;
-use rt_base::{Cells, Handle, How, Op, Phase, Program, ReqNo, Span, Status, TaskDef, TaskNo};
+use rt_base::{Cells, How, Op, Phase, Program, ReqNo, Span, Status, TaskDef};
 use task_local::TaskRec;
 
 /// A posting of a body: how it is posted, its span, and where its status goes.
@@ -112,94 +111,11 @@ pub(crate) fn pending(engine: &Engine, req: ReqNo) -> u32
     if engine.complete(req) { 0 } else { 1 }
 }
 
-// Whether a task in one of these phases awaits the request. Looks at the handles of the wait in which the task is, if it is in one.
-fn is_awaited(prog: &Program, phases: &[Phase], posted: &Posted, req: ReqNo) -> bool
-    requires phases { length phases.now ≡ length prog.now.tasks.items }
-    requires numbered { IsNumbered prog.now phases.now posted.now }
-    ensures { result ≡ awaits_now prog.now phases.now req }
-{
-    if req.task.0 as usize >= phases.len() {
-        return false;
-    }
-    match phases[req.task.0 as usize] {
-        Phase::Waiting => false,
-        Phase::At(_) => false,
-        Phase::In(k) => is_awaited_in(task_of(prog, req.task), k, posted, req),
-        Phase::Ended => false,
-        Phase::Returned => false,
-        Phase::Released => false,
-    }
-}
-
-// Whether its task awaits the request in operation k.
-fn is_awaited_in(def: &TaskDef, k: u32, posted: &Posted, req: ReqNo) -> bool
-    requires { slice_get posted.now req.task.0 ≡ Some (nth_at def.now (k + 1)) }
-    ensures { result ≡ list_any (same_request req) (awaited req.task.0 def.now k) }
-{
-    if k as usize >= def.body.len() {
-        return false;
-    }
-    match &def.body.as_slice()[k as usize] {
-        Op::Compute { .. } => false,
-        Op::Post { how, .. } => how.blocks() && posted.last(req.task) == req.nth,
-        Op::Await { handles, .. } => is_named(handles.as_slice(), req.nth),
-    }
-}
-
-// Whether one of the handles names the nth posting.
-fn is_named(handles: &[Handle], nth: u32) -> bool
-    ensures { (t : ℕ) → result ≡ list_any (same_request (request t nth)) (named_requests t handles.now) }
-{
-    for handle in handles {
-        if *handle == Handle::Nth(nth) {
-            return true;
-        }
-    }
-    false
-}
-
 // For how many things a task waits after a posting of which so many requests are incomplete.
 pub(crate) fn waits_after(how: How, pending: u32) -> u32
     ensures { result ≡ (if blocks how then pending else 0) }
 {
     if how.blocks() { pending } else { 0 }
-}
-
-// The task waits for one thing less.
-fn one_less(waits: &mut Counts, task: TaskNo)
-    requires { task.0 < length waits.old }
-    ensures { waits.new ≡ slice_set waits.old task.0 (slice_index_or waits.old task.0 0 - 1) }
-{
-    let before = waits.at(task.0);
-    waits.set(task.0, before.saturating_sub(1));
-}
-
-// Appends the notice of the request that a posting completed beside its own, for which its task waits no longer.
-pub(crate) fn tell(
-    notices: &mut Vec<ReqNo>,
-    waits: &mut Counts,
-    engine: &Engine,
-    prog: &Program,
-    phases: &[Phase],
-    posted: &Posted,
-    partner: Option<ReqNo>,
-)
-    requires room { length notices.old.items < vec_capacity notices.old }
-    requires waits { length waits.old ≡ length phases.now }
-    requires same { engine.now.program ≡ prog.now }
-    requires phases { length phases.now ≡ length prog.now.tasks.items }
-    requires numbered { IsNumbered prog.now phases.now posted.now }
-    requires complete { IfSome partner (λ other. is_complete engine.now.program engine.now.exchange other ≡ true) }
-    ensures items { notices.new.items ≡ notices.old.items ++ noticed_now prog.now phases.now partner }
-    ensures places { vec_capacity notices.old ≤ vec_capacity notices.new }
-    ensures waits { waits.new ≡ one_less_for waits.old (noticed_now prog.now phases.now partner) }
-{
-    if let Some(other) = partner {
-        if !engine.completes_alone(other) && is_awaited(prog, phases, posted, other) {
-            note(notices, other);
-            one_less(waits, other.task);
-        }
-    }
 }
 
 // Appends the status that a posting tells as it is left, and answers how many it told.

@@ -1,6 +1,7 @@
 //! How much room a book needs, and items that go into it.
 
-ghost use Rattle.std.specs.Prelude.{◌≡◌, ◌≤◌, ◌<◌, ◌^◌, ◌==◌, ◌∷◌, [], ◌++◌, ℕ, Some, drop, length, slice_get, sum, sum_by, vec_capacity, replicate, pos, IfOk, if◌then◌else◌};
+ghost use Rattle.std.specs.Prelude.{◌≡◌, ◌≤◌, ◌<◌, ◌^◌, ◌==◌, ◌∷◌, [], ◌++◌, ℕ, Some, drop, length, slice_get, sum, sum_by, vec_capacity, replicate, pos};
+ghost use Rattle.std.specs.Prelude.{IfOk, if◌then◌else◌};
 ghost use Rattle.rt_base.specs.declared.data.Phase.TheVariants as phase;
 ghost use Rattle.rt_base.specs.declared.data.TaskDef.{TaskDef};
 ghost use Rattle.rt_base.specs.Operations.{is_posting, postings};

@@ -1,15 +1,16 @@
 //! The waits of a body: what they name, and where their statuses go.
 
-ghost use Rattle.std.specs.Prelude.{◌≡◌, ◌<◌, ℕ, length, slice_get};
+ghost use Rattle.std.specs.Prelude.{◌≡◌, ◌<◌, ◌↔◌, IsTrue, ℕ, length, slice_get};
 ghost use Rattle.task_local.specs.Waits.{handles_of, status_span_of};
-ghost use Rattle.core_book.specs.Kept.{IsWait};
+ghost use Rattle.tidy_runs.specs.Tidy.{binds};
+ghost use Rattle.core_book.specs.Kept.{IsAwait, IsWait, IsBind};
 
 use rt_base::{Handle, Op, Span, TaskDef};
 
-// The handles of the wait that is operation k.
+// The handles of the wait that is operation k, which waits now or later.
 pub(crate) fn handles_at(def: &TaskDef, k: u32) -> &[Handle]
     requires within { k < length def.now.body.items }
-    requires waits { IsWait (slice_get def.now.body.items k) }
+    requires waits { IsAwait (slice_get def.now.body.items k) }
     ensures { (n : ℕ) → handles_of n (slice_get def.now.body.items k) ≡ result.now }
 {
     match &def.body.as_slice()[k as usize] {
@@ -29,5 +30,26 @@ pub(crate) fn status_at(def: &TaskDef, k: u32) -> Option<Span>
         Op::Compute { .. } => unreachable!(),
         Op::Post { .. } => unreachable!(),
         Op::Await { status, .. } => *status,
+    }
+}
+
+// Whether operation k binds what it names.
+pub(crate) fn binds_at(def: &TaskDef, k: u32) -> bool
+    ensures { IsTrue result ↔ IsBind (slice_get def.now.body.items k) }
+{
+    match def.body.get(k as usize) {
+        Some(operation) => binds(operation),
+        None => false,
+    }
+}
+
+// Whether the operation binds what it names.
+pub(crate) fn binds(operation: &Op) -> bool
+    ensures { result ≡ binds operation.now }
+{
+    match operation {
+        Op::Compute { .. } => false,
+        Op::Post { .. } => false,
+        Op::Await { later, .. } => *later,
     }
 }

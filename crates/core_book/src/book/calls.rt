@@ -1,4 +1,4 @@
-//! Calls: a posting, and a wait.
+//! Calls: a posting, a wait, and a binding.
 
 ghost use Rattle.std.specs.Prelude.{◌≡◌, length, slice_get};
 ghost use Rattle.rt_base.specs.declared.data.Phase.TheVariants as phase;
@@ -8,16 +8,17 @@ ghost use Rattle.task_local.specs.Standing.{def, packed_next};
 ghost use Rattle.task_machine.specs.Machine.{move};
 ghost use Rattle.task_machine.specs.Legal.{final};
 ghost use Rattle.core_book.specs.Ledger.{MakesMove, LeavesPending};
-ghost use Rattle.core_book.specs.Kept.{PostsAs, IsWait};
+ghost use Rattle.core_book.specs.Kept.{PostsAs, IsWait, IsBind};
 
 use crate::book::Book;
-use crate::posting::{Posting, pending, phase_after, place_after, post, tell, waits_after};
+use crate::posting::{Posting, pending, phase_after, place_after, post, waits_after};
 use crate::room::{note, note_some};
-use crate::tasks::task_of;
+use crate::tasks::{phase_before, stop, task_of};
+use crate::telling::{lower_bound, lower_waited, tell, who_is_told};
 use crate::waits::handles_at;
 use rt_base::{Cells, Entry, Phase, Program, ReqNo};
 use task_local::TaskRec;
-use wait_steps::{note_open, open_among};
+use wait_steps::{bind_all, note_open, open_among};
 
 impl Book {
     // The task posts the request of operation k, and goes into it where it blocks; answers how many of its requests are incomplete then.
@@ -47,15 +48,17 @@ impl Book {
             nth: self.posted.next(task),
         };
         let partner = post(&mut self.engine, prog, req, posting.how, cells);
-        tell(
-            &mut self.notices,
-            &mut self.waits,
+        let told = who_is_told(
             &self.engine,
             prog,
             phases,
             &self.posted,
+            &self.marks,
             partner,
         );
+        tell(&mut self.notices, told);
+        lower_bound(&mut self.incomplete, told);
+        lower_waited(&mut self.waits, told);
         self.posted.add(task);
         phases[task.0 as usize] = phase_after(def, k, posting.how);
         rec.go(prog, place_after(def, k, posting.how));
@@ -93,6 +96,42 @@ impl Book {
         self.phases[task.0 as usize] = Phase::In(k);
         rec.go(prog, Phase::In(k));
         self.waits.set(task.0, pending);
+        note(
+            &mut self.entries,
+            Entry::Call {
+                task,
+                op: k,
+                pending,
+            },
+        );
+        pending
+    }
+
+    // The task binds what operation k names and is incomplete, and goes on; answers how many requests that are.
+    pub(super) fn bind(&mut self, prog: &Program, rec: &mut TaskRec, k: u32) -> u32
+        requires well_formed { WellFormed prog.now }
+        requires same { prog.now ≡ self.old.program }
+        requires stands { StandsFor prog.now rec.old (final prog.now self.old.history) }
+        requires at { rec.old.phase ≡ phase.At k }
+        requires binds { IsBind (slice_get (def rec.old).body.items k) }
+        ensures moves { MakesMove self.old self.new rec.old rec.new }
+        ensures pending { LeavesPending (move prog.now (final prog.now self.old.history) rec.old.task).entry result }
+    {
+        let task = rec.task();
+        let def = task_of(prog, task);
+        let handles = handles_at(def, k);
+        self.opened.clear();
+        let pending = bind_all(
+            &mut self.marks,
+            &mut self.opened,
+            &self.engine,
+            task,
+            handles,
+        );
+        self.bound.raise(task.0, pending);
+        self.incomplete.raise(task.0, pending);
+        self.phases[task.0 as usize] = stop(def, k + 1);
+        rec.go(prog, phase_before(def, k + 1));
         note(
             &mut self.entries,
             Entry::Call {

@@ -1,10 +1,11 @@
-//! What a book answers: which tasks may move, whether none may, and what the last move opened.
+//! What a book answers: which tasks may move, whether none may, what the last move opened, and what is bound.
 
-ghost use Rattle.std.specs.Prelude.{◌≡◌, ◌↔◌, IsTrue, slice_get};
+ghost use Rattle.std.specs.Prelude.{◌≡◌, ◌<◌, ◌↔◌, IsTrue, length, slice_get};
 ghost use Rattle.rt_base.specs.WellFormed.{WellFormed};
 ghost use Rattle.rt_base.specs.MayMove.{MayMove};
 ghost use Rattle.task_machine.specs.Legal.{final, IsQuiet, IsFinished};
 ghost use Rattle.task_machine.specs.Owed.{last_opened};
+ghost use Rattle.core_book.specs.Ledger.{bound_in};
 
 use crate::book::Book;
 use crate::tasks::is_waiting;
@@ -43,15 +44,25 @@ impl Book {
         self.unreleased == 0
     }
 
-    /// The notices of completions in the state after the history. No one takes them. Takes constant time.
-    pub fn notices(&self) -> &[ReqNo]
-        ensures { result.now ≡ (final self.now.program self.now.history).notices }
+    /// Whether a notice of a completion stands. Takes no memory, and constant time.
+    pub fn has_notice(&self) -> bool
+        ensures { IsTrue result ↔ (0 < length (final self.now.program self.now.history).notices) }
     {
-        &self.notices
+        !self.notices.is_empty()
     }
 
-    /// The requests that the last move opened, by place: incomplete after it, and awaited by its task from then on. None behind the last of them,
-    /// and before the first move. Takes constant time.
+    /// How many requests the task has bound so far, complete or not; 0 for a task that the program lacks. Takes no memory, and constant time.
+    pub fn bound(&self, task: TaskNo) -> u32
+        ensures { result ≡ length (bound_in (final self.now.program self.now.history) task.0) }
+    {
+        if task.0 as usize >= self.phases.len() {
+            return 0;
+        }
+        self.bound.at(task.0)
+    }
+
+    /// The requests that the last move opened, by place: incomplete after it, and awaited by its task, or bound to it, from then on. None behind the
+    /// last of them, and before the first move. Takes constant time.
     pub fn open_request(&self, i: u32) -> Option<ReqNo>
         ensures { result ≡ slice_get (last_opened self.now.program self.now.history) i }
     {

@@ -11,7 +11,10 @@ use Rattle.core_book.proofs.BookLemmas.{status_count}
 use Rattle.core_book.proofs.Moved.{IsMoved, book_after, gone_more, makes_move}
 use Rattle.core_book.proofs.Held.{room_at, place_within}
 use Rattle.core_book.proofs.BookMoves.{left_as}
-use Rattle.core_book.proofs.LeaveLemmas.{Inside, Leaves, inside, is_done, stores, received_fit, status_received, status_declared, status_room, shelf_left, left_task, told_here, within_body, leave_changed, leave_moved, leave_left, leave_record, leave_stands}
+use Rattle.core_book.proofs.LeaveLemmas.{Inside, Leaves, inside, is_done, stores, received_fit, status_received, status_declared, status_room, shelf_left}
+use Rattle.core_book.proofs.LeaveLemmas.{left_task, told_here, within_body, leave_changed, leave_moved, leave_left, leave_record, leave_stands}
+use Rattle.core_book.proofs.BoundAfter.{bound_kept}
+use Rattle.core_book.proofs.BindingMoves.{binding_kept}
 use Rattle.core_book.proofs.CountMoves.{leave_counted}
 use Rattle.core_book.proofs.Numbers.{leave_number, last_number, number_some, leave_numbered}
 use Rattle.core_book.proofs.book.Book.leave_posting.Goals as goal
@@ -183,10 +186,12 @@ invariant_of-self c =
     let i = within at in
     let m = moved (goal.at.invariant_of-self c).After-note i (nth at c.last.result c.last.ensures) in
     let changed = leave_changed s held t k d c.self.invariant.kept i.in_it in
+    let same = bound_kept s _ t d i.in_it.here.was _ _ _ changed m refl in
     record {
       kept = book_after s _ t d i.in_it.here.was _ _ _ c.self.invariant.kept changed m;
-      counted = leave_counted s held t k d c.stop.result _ c.self.invariant i.in_it c.stop.ensures
-          (gone_more s _ t d i.in_it.here.was _ _ _ changed m (rw i.in_it.here.stands.0 refl));
+      counted = leave_counted s held t k d c.stop.result _ _ c.self.invariant i.in_it c.stop.ensures
+          (gone_more s _ t d i.in_it.here.was _ _ _ changed m (rw i.in_it.here.stands.0 refl)) same;
+      binding = binding_kept s _ c.self.invariant same;
       numbered = leave_numbered s held t k d c.stop.result c.self.invariant i.in_it c.stop.ensures;
     }
 

@@ -1,5 +1,5 @@
 -- The book after the end of a wait, and the record.
-use Rattle.std.proofs.Common.{◌≡◌, ◌∙◌, ◌+◌, ◌^◌, ◌<◌, ◌≤◌, ℕ, sym, ap, List, ◌++◌, drop, length, slice_get, refl, arith}
+use Rattle.std.proofs.Common.{◌≡◌, ◌∙◌, ◌+◌, ◌^◌, ◌<◌, ℕ, sym, ap, List, ◌++◌, drop, length, refl, arith}
 use Rattle.std.specs.Prelude.{vec_capacity}
 use Rattle.std.proofs.Math.Seq.{drop-append_seam}
 use Rattle.std.proofs.lemmas.List.{length-append}
@@ -15,11 +15,14 @@ use Rattle.core_book.proofs.BookLemmas.{status_count}
 use Rattle.core_book.proofs.Moved.{IsMoved, book_after, gone_more, makes_move}
 use Rattle.core_book.proofs.Held.{room_at, place_within}
 use Rattle.core_book.proofs.BookMoves.{left_as}
+use Rattle.core_book.proofs.BoundAfter.{bound_kept}
+use Rattle.core_book.proofs.BindingMoves.{binding_kept}
 use Rattle.core_book.proofs.CountMoves.{leave_counted}
 use Rattle.core_book.proofs.Numbers.{leave_numbered}
 use Rattle.core_book.proofs.Tells.{statuses_each}
-use Rattle.core_book.proofs.LeaveLemmas.{Leaves, Within, is_within, within_body, shelf_left, left_task, leave_changed, leave_moved, leave_record, leave_stands}
-use Rattle.core_book.proofs.WaitLemmas.{InWait, in_wait, is_wait, named_are, few_named, wait_complete, wait_told_room, wait_declared, wait_tells, wait_end}
+use Rattle.core_book.proofs.LeaveLemmas.{Within, is_within, within_body, shelf_left, left_task, leave_changed, leave_moved, leave_record, leave_stands}
+use Rattle.core_book.proofs.WaitLemmas.{InWait, in_wait, is_await, is_wait, named_are, few_named, wait_complete, wait_told_room, wait_declared, wait_tells}
+use Rattle.core_book.proofs.WaitLemmas.{wait_end}
 use Rattle.core_book.proofs.book.Book.leave_wait.Goals as goal
 use Rattle.core_book.proofs.book.Book.leave_wait.Goals.{After-task_of-def, After-handles_at-handles, After-note}
 
@@ -64,7 +67,7 @@ handles_at-handles-requires-clause-within c =
 pub handles_at-handles-requires-clause-waits : goal.handles_at-handles-requires-clause-waits
 handles_at-handles-requires-clause-waits c =
     let w = within_it (goal.at.handles_at-handles-requires-clause-waits c).After-task_of-def in
-    is_wait (shelf_of c.self.inside) c.args.rec.now c.task-task.result.0 c.args.k c.task_of-def.result.now w c.requires.other
+    is_await (shelf_of c.self.inside) c.args.rec.now c.task-task.result.0 c.args.k c.task_of-def.result.now w c.requires.other
 
 pub status_at-requires-clause-waits : goal.status_at-requires-clause-waits
 status_at-requires-clause-waits c =
@@ -199,10 +202,12 @@ invariant_of-self c =
     let w = known at in
     let m = moved (goal.at.invariant_of-self c).After-note w (named at w) in
     let changed = leave_changed s held t c.args.k d c.self.invariant.kept w.in_it in
+    let as_before = bound_kept s _ t d w.in_it.here.was _ _ _ changed m refl in
     record {
       kept = book_after s _ t d w.in_it.here.was _ _ _ c.self.invariant.kept changed m;
-      counted = leave_counted s held t c.args.k d c.stop.result _ c.self.invariant w.in_it c.stop.ensures
-          (gone_more s _ t d w.in_it.here.was _ _ _ changed m (rw w.in_it.here.stands.0 refl));
+      counted = leave_counted s held t c.args.k d c.stop.result _ _ c.self.invariant w.in_it c.stop.ensures
+          (gone_more s _ t d w.in_it.here.was _ _ _ changed m (rw w.in_it.here.stands.0 refl)) as_before;
+      binding = binding_kept s _ c.self.invariant as_before;
       numbered = leave_numbered s held t c.args.k d c.stop.result c.self.invariant w.in_it c.stop.ensures;
     }
 

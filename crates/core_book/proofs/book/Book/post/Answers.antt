@@ -1,22 +1,24 @@
 -- The book after a posting, and the record.
-use Rattle.std.proofs.Common.{◌≡◌, ◌∙◌, ◌<◌, ℕ, sym, ap, cond, List, [], ◌∷◌, ◌++◌, length, refl, arith}
-use Rattle.std.specs.Prelude.{vec_capacity, ◌==◌}
+use Rattle.std.proofs.Common.{◌≡◌, ◌∙◌, ◌<◌, ℕ, sym, ap, cond, List, [], ◌∷◌, ◌++◌, length, refl, subst, arith}
+use Rattle.std.specs.Prelude.{vec_capacity, ◌==◌, IfSome}
 use Rattle.rt_base.specs.declared.data.ReqNo.{ReqNo}
-use Rattle.rt_base.specs.declared.data.Phase.{Phase}
 use Rattle.rt_base.specs.declared.data.Phase.TheVariants as phase
-use Rattle.rt_base.specs.Operations.{nth_at, task_no}
+use Rattle.rt_base.specs.Operations.{blocks, nth_at, task_no}
 use Rattle.task_machine.specs.Owed.{opened}
-use Rattle.core_book.specs.Kept.{noticed_now, state_now}
+use Rattle.core_book.specs.declared.telling.Told.{Told}
+use Rattle.core_book.specs.Kept.{state_now, one_less_for, told_requests}
 use Rattle.core_book.proofs.Insides.{shelf_of}
 use Rattle.core_book.proofs.Few.{few_operations}
 use Rattle.core_book.proofs.Moved.{book_after, gone_more, makes_move}
-use Rattle.core_book.proofs.Held.{same_program, room_at, place_within}
+use Rattle.core_book.proofs.Held.{same_program, phases_counted, room_at, place_within}
 use Rattle.core_book.proofs.BookMoves.{left_as}
-use Rattle.core_book.proofs.CallLemmas.{Calls, Answered, calls, call_within, call_sends, call_receives, call_is_new, call_follows, call_changed, call_moved, call_opens, call_left, call_stands, call_pending, post_opens, post_room}
-use Rattle.core_book.proofs.CountCalls.{call_counted, length-one_less_for}
+use Rattle.core_book.proofs.CallLemmas.{Calls, Answered, calls, call_within, call_sends, call_receives, call_is_new, call_follows, call_changed, call_moved}
+use Rattle.core_book.proofs.CallLemmas.{call_opens, call_left, call_stands, call_pending, post_opens, post_room, posted_bound}
+use Rattle.core_book.proofs.BoundAfter.{bound_kept}
+use Rattle.core_book.proofs.CountCalls.{binding_call, call_counted, length-one_less_for, told_within}
 use Rattle.core_book.proofs.Numbers.{call_number, call_few, call_numbered, numbered_seen}
 use Rattle.core_book.proofs.book.Book.post.Goals as goal
-use Rattle.core_book.proofs.book.Book.post.Goals.{After-next-arg-1, After-post-arg-1, After-note}
+use Rattle.core_book.proofs.book.Book.post.Goals.{After-next-arg-1, After-post-arg-1, After-who_is_told-told, After-note}
 
 -- the task stands at the posting
 at_call : (c : After-next-arg-1) → Calls (shelf_of c.self.inside) c.args.rec.now c.task-task.result.0 c.args.k c.task_of-def.result.now c.args.posting
@@ -76,10 +78,36 @@ room c =
     room_at (shelf_of c.self.inside) c.args.rec.now c.task-task.result.0 c.task_of-def.result.now (phase.At c.args.k) (phase.At c.args.k)
     c.self.invariant.kept call.here call.at (omega arith)
 
-pub tell-requires-clause-room : goal.tell-requires-clause-room
-tell-requires-clause-room c =
-    let call = at_call (goal.at.tell-requires-clause-room c).After-next-arg-1 in
-    post_room (shelf_of c.self.inside) c.args.rec.now c.task-task.result.0 c.args.k c.task_of-def.result.now c.args.posting c.self.invariant.kept call
+pub tell-requires : goal.tell-requires
+tell-requires c = record {
+  room =
+      let call = at_call (goal.at.tell-requires c).After-next-arg-1 in
+      post_room (shelf_of c.self.inside) c.args.rec.now c.task-task.result.0 c.args.k c.task_of-def.result.now c.args.posting c.self.invariant.kept call;
+}
+
+-- who is told is a task of the program
+told : (c : After-who_is_told-told) → IfSome c.who_is_told-told.result (λ (found : Told). found.req.task.0 < length c.self.inside.program.value.tasks.items)
+told c =
+    let s = shelf_of c.self.inside in
+    told_within s c.args.prog.now c.deref.result.now c.who_is_told-told.result c.post-partner.result c.self.invariant
+    (same_program s c.args.self.now c.args.prog.now c.self.view_is c.requires.same) c.deref.ensures.value c.who_is_told-told.ensures.told
+
+pub lower_bound-requires : goal.lower_bound-requires
+lower_bound-requires c =
+    subst (λ (n : ℕ). IfSome c.who_is_told-told.result (λ (found : Told). found.req.task.0 < n)) (sym c.self.invariant.binding.long_incomplete)
+    (told (goal.at.lower_bound-requires c).After-who_is_told-told)
+
+pub lower_waited-requires : goal.lower_waited-requires
+lower_waited-requires c =
+    subst (λ (n : ℕ). IfSome c.who_is_told-told.result (λ (found : Told). found.req.task.0 < n))
+    (sym (c.self.invariant.counted.long ∙ phases_counted (shelf_of c.self.inside) c.self.invariant.kept))
+    (told (goal.at.lower_waited-requires c).After-who_is_told-told)
+
+pub who_is_told-told-requires-clause-numbered : goal.who_is_told-told-requires-clause-numbered
+who_is_told-told-requires-clause-numbered c =
+    let s = shelf_of c.self.inside in
+    numbered_seen s.program c.args.prog.now s.phases c.deref.result.now s.posted c.self.invariant.numbered
+    (same_program s c.args.self.now c.args.prog.now c.self.view_is c.requires.same) c.deref.ensures.value
 
 pub note_some-requires : goal.note_some-requires
 note_some-requires c =
@@ -87,15 +115,6 @@ note_some-requires c =
     let fits = post_opens (shelf_of c.self.inside) c.args.rec.now c.task-task.result.0 c.args.k c.task_of-def.result.now c.args.posting
     c.self.invariant.kept call in
     omega (arith, ap (λ (z : List ReqNo). length z) c.clear.ensures.items, c.clear.ensures.capacity)
-
-pub tell-requires-clause-waits : goal.tell-requires-clause-waits
-tell-requires-clause-waits c = c.self.invariant.counted.long ∙ sym (ap (λ (z : List Phase). length z) c.deref.ensures.value)
-
-pub tell-requires-clause-numbered : goal.tell-requires-clause-numbered
-tell-requires-clause-numbered c =
-    let s = shelf_of c.self.inside in
-    numbered_seen s.program c.args.prog.now s.phases c.deref.result.now s.posted c.self.invariant.numbered
-    (same_program s c.args.self.now c.args.prog.now c.self.view_is c.requires.same) c.deref.ensures.value
 
 pub add-requires-clause-within : goal.add-requires-clause-within
 add-requires-clause-within c =
@@ -139,8 +158,8 @@ pub set-requires : goal.set-requires
 set-requires c =
     let lt = index (goal.at.set-requires c).After-next-arg-1 in
     let long = c.self.invariant.counted.long in
-    let same = ap (λ (z : List ℕ). length z) c.tell.ensures.waits ∙ length-one_less_for c.self.inside.waits
-    (noticed_now c.args.prog.now c.deref.result.now c.post-partner.result) in
+    let same = ap (λ (z : List ℕ). length z) c.lower_waited.ensures ∙ length-one_less_for c.self.inside.waits
+    (told_requests (λ (found : Told). found.waited) c.who_is_told-told.result) in
     omega arith
 
 -- what the calls have answered
@@ -190,19 +209,24 @@ invariant_of-self c =
     let same = same_program s c.args.self.now c.args.prog.now c.self.view_is c.requires.same in
     let m = call_moved s held t k n count d posting c.args.cells.items engine found c.args.prog.now c.deref.result.now c.phase_after.result
     c.tell.new.notices.items c.note.new.list.items
-    c.set.new.self c.add.new.self c.note_some.new.list.items _ _ (vec_capacity c.note_some.new.list) c.self.invariant.kept call a same c.deref.ensures.value
-    c.tell.ensures.items c.phase_after.ensures c.note.ensures.items
+    c.set.new.self c.add.new.self c.lower_bound.new.incomplete c.note_some.new.list.items _ _ (vec_capacity c.note_some.new.list) c.self.invariant.kept
+    c.self.invariant.binding.marked call a same c.deref.ensures.value
+    (c.tell.ensures.items ∙ ap (λ (z : List ReqNo). s.notices ++ z) c.who_is_told-told.ensures.told) c.phase_after.ensures c.note.ensures.items
     (opens (goal.at.invariant_of-self c).After-note call a) c.note.ensures.places c.tell.ensures.places
     (omega (arith, c.clear.ensures.capacity, c.note_some.ensures.places)) in
     let changed = call_changed s held t k d posting c.self.invariant.kept call in
+    let kept = bound_kept s _ t d call.here.was _ _ _ changed m (posted_bound d k (blocks posting.how) call.here.was) in
     record {
       kept = book_after s _ t d call.here.was _ _ _ c.self.invariant.kept changed m;
       counted = call_counted s held t k n count c.waits_after-awaited.result d posting c.args.cells.items engine found c.args.prog.now c.deref.result.now
-          c.phase_after.result c.tell.new.waits
-          c.set.new.self _ c.self.invariant call a same c.deref.ensures.value c.tell.ensures.waits c.waits_after-awaited.ensures c.set.ensures c.phase_after.ensures
-          (gone_more s _ t d call.here.was _ _ _ changed m (rw call.at refl));
+          c.phase_after.result c.lower_waited.new.waits
+          c.set.new.self _ _ c.self.invariant call a same c.deref.ensures.value
+          (c.lower_waited.ensures ∙ ap (one_less_for s.waits) c.who_is_told-told.ensures.waited) c.waits_after-awaited.ensures c.set.ensures
+          c.phase_after.ensures (gone_more s _ t d call.here.was _ _ _ changed m (rw call.at refl)) kept;
       numbered = call_numbered s held t k n d posting c.phase_after.result c.add.new.self c.self.invariant call c.next.ensures c.add.ensures
           c.phase_after.ensures;
+      binding = binding_call s held t k n count d posting c.args.cells.items engine found c.args.prog.now c.lower_bound.new.incomplete _ c.self.invariant call
+          a same (c.lower_bound.ensures ∙ ap (one_less_for s.incomplete) c.who_is_told-told.ensures.bound) kept;
     }
 
 pub returns-clause-moves : goal.returns-clause-moves
@@ -217,9 +241,10 @@ returns-clause-moves c =
     let a = answered (goal.at.returns-clause-moves c).After-note (nth (goal.at.returns-clause-moves c).After-post-arg-1 call) in
     let m = call_moved s held t k c.next.result c.pending-pending.result d posting c.args.cells.items c.post-partner.new.engine c.post-partner.result
     c.args.prog.now c.deref.result.now
-    c.phase_after.result c.tell.new.notices.items c.note.new.list.items c.set.new.self c.add.new.self c.note_some.new.list.items _ _
-    (vec_capacity c.note_some.new.list) c.self.invariant.kept call a
-    (same_program s c.args.self.now c.args.prog.now c.self.view_is c.requires.same) c.deref.ensures.value c.tell.ensures.items c.phase_after.ensures
+    c.phase_after.result c.tell.new.notices.items c.note.new.list.items c.set.new.self c.add.new.self c.lower_bound.new.incomplete
+    c.note_some.new.list.items _ _ (vec_capacity c.note_some.new.list) c.self.invariant.kept c.self.invariant.binding.marked call a
+    (same_program s c.args.self.now c.args.prog.now c.self.view_is c.requires.same) c.deref.ensures.value
+    (c.tell.ensures.items ∙ ap (λ (z : List ReqNo). s.notices ++ z) c.who_is_told-told.ensures.told) c.phase_after.ensures
     c.note.ensures.items (opens (goal.at.returns-clause-moves c).After-note call a)
     c.note.ensures.places c.tell.ensures.places (omega (arith, c.clear.ensures.capacity, c.note_some.ensures.places)) in
     let changed = call_changed s held t k d posting c.self.invariant.kept call in

@@ -20,4 +20,5 @@ invariant_of-self-2 c =
           e.unchanged;
       counted = ready_counted s c.in_ok-task.task.0 c.next_startable.new.self.handed c.set.new.self c.self.invariant e.startable e.handed c.set.ensures;
       numbered = c.self.invariant.numbered;
+      binding = c.self.invariant.binding;
     }

@@ -1,72 +1,95 @@
 -- The book after a release, and the record.
-use Rattle.std.proofs.Common.{◌≡◌, ◌∙◌, refl, sym, ap, subst, List, ◌++◌, ◌-◌, length, take, drop, arith}
+use Rattle.std.proofs.Common.{◌≡◌, ◌∙◌, ◌-◌, refl, sym, ap, List, ◌++◌, length, take, drop, slice_get, arith}
 use Rattle.std.specs.Prelude.{ℤ, vec_capacity}
+use Rattle.std.proofs.lemmas.Option.{slice_get_within}
 use Rattle.rt_base.specs.declared.data.Phase.TheVariants as phase
-use Rattle.rt_base.specs.declared.data.Program.{Program}
-use Rattle.rt_base.specs.declared.data.Entry.{Entry}
-use Rattle.rt_base.specs.MayMove.{MayMove}
-use Rattle.task_local.specs.Regions.{saved}
-use Rattle.task_local.specs.StandsFor.{Record, StandsFor, StandsAs}
-use Rattle.task_machine.specs.Legal.{final}
+use Rattle.rt_base.specs.declared.data.Status.{Status}
+use Rattle.task_local.specs.Waits.{taken_at_release}
 use Rattle.core_book.specs.Kept.{state_now}
 use Rattle.core_book.proofs.Insides.{shelf_of}
 use Rattle.core_book.proofs.BookLemmas.{status_count}
+use Rattle.core_book.proofs.BookMoves.{left_as}
 use Rattle.core_book.proofs.Moved.{book_after, gone_more, makes_move, still_held}
-use Rattle.core_book.proofs.Held.{Held, held_as, own, may_move, room_at, handed_of, place_within, same_program}
-use Rattle.core_book.proofs.BookMoves.{left_as, released_task, release_changed, release_moved, release_left, saved_now, whole_back}
+use Rattle.core_book.proofs.Held.{room_at, handed_of, place_within, same_program}
+use Rattle.core_book.proofs.BoundAfter.{bound_kept}
+use Rattle.core_book.proofs.BindingMoves.{binding_kept}
 use Rattle.core_book.proofs.CountMoves.{release_counted, some_unreleased}
 use Rattle.core_book.proofs.Numbers.{release_numbered}
+use Rattle.core_book.proofs.ReleaseLemmas.{Releases, LetsGo, releases, late_received, late_told_room, late_count, late_stored, late_tells, release_left}
+use Rattle.core_book.proofs.ReleaseLemmas.{release_stands, saved_now, release_changed, release_moved, whole_back}
 use Rattle.core_book.proofs.book.Book.release.Goals as goal
-use Rattle.core_book.proofs.book.Book.release.Goals.{After-task-task, After-note}
-
-stands : (c : After-task-task) → StandsFor (shelf_of c.self.inside).program c.args.rec.now (state_now (shelf_of c.self.inside))
-stands c =
-    own (λ (q : Program) (es : List Entry). StandsFor q c.args.rec.now (final q es))
-    (shelf_of c.self.inside) c.args.self.now c.args.prog.now c.self.view_is c.requires.same c.requires.stands
-
-here : (c : After-task-task) → Held (shelf_of c.self.inside) c.args.rec.now c.task-task.result.0 (stands c).def phase.Returned
-unfolding stands
-here c = held_as (shelf_of c.self.inside) c.args.rec.now c.task-task.result.0 phase.Returned (stands c) c.task-task.ensures c.requires.returned
-
-may : (c : After-task-task) → MayMove (shelf_of c.self.inside).program (state_now (shelf_of c.self.inside)) c.task-task.result.0
-may c =
-    may_move (shelf_of c.self.inside) c.args.rec.now c.task-task.result.0 c.args.self.now c.args.prog.now c.self.view_is c.requires.same c.requires.enabled
-    c.task-task.ensures
-
-pub release-requires-clause-handed : goal.release-requires-clause-handed
-release-requires-clause-handed c =
-    let h = here (goal.at.release-requires-clause-handed c).After-task-task in
-    handed_of (shelf_of c.self.inside) c.args.rec.now c.task-task.result.0 _ phase.Returned phase.Returned c.self.invariant.kept h h.stands.0
-    (λ e. absurd (cc e))
-
-pub release-requires-clause-held : goal.release-requires-clause-held
-release-requires-clause-held c =
-    let h = here (goal.at.release-requires-clause-held c).After-task-task in
-    still_held (shelf_of c.self.inside) c.task-task.result.0 h.was c.self.invariant.kept h.is_task (rw h.stands.0 refl)
+use Rattle.core_book.proofs.book.Book.release.Goals.{After-note, After-task_of}
 
 pub count_of-from-requires : goal.count_of-from-requires
 count_of-from-requires c =
     let few = status_count (shelf_of c.self.inside) c.self.invariant.kept in
-    let seen = ap (λ l. length l) c.deref.ensures.value in
+    let seen = ap (λ (l : List Status). length l) c.deref.ensures.value in
     omega arith
 
-pub note-requires : goal.note-requires
-note-requires c =
-    let h = here (goal.at.note-requires c).After-task-task in
-    room_at (shelf_of c.self.inside) c.args.rec.now c.task-task.result.0 _ phase.Returned phase.Returned c.self.invariant.kept h h.stands.0 (omega arith)
+pub task_of-requires : goal.task_of-requires
+task_of-requires c =
+    slice_get_within c.args.prog.now.tasks.items c.task-task.result.0 c.requires.stands.def
+    (ap (slice_get c.args.prog.now.tasks.items) c.task-task.ensures ∙ c.requires.stands.is_def)
+
+-- the task has returned, and may let go
+known : (c : After-task_of) → Releases (shelf_of c.self.inside) c.args.rec.now c.task-task.result.0 c.task_of.result.now
+known c =
+    releases (shelf_of c.self.inside) c.args.rec.now c.task-task.result.0 c.task_of.result.now c.args.self.now c.args.prog.now c.self.invariant.kept
+    c.self.view_is c.requires.same c.requires.stands c.requires.enabled c.task-task.ensures c.task_of.ensures c.requires.returned
+
+pub take_bound-requires-clause-received : goal.take_bound-requires-clause-received
+take_bound-requires-clause-received c =
+    late_received (shelf_of c.self.inside) c.args.rec.now c.task-task.result.0 c.args.rec.now.task c.task_of.result.now c.self.invariant.kept
+    (known (goal.at.take_bound-requires-clause-received c).After-task_of) (sym c.task-task.ensures)
+
+pub take_bound-requires-clause-room : goal.take_bound-requires-clause-room
+take_bound-requires-clause-room c =
+    late_told_room (shelf_of c.self.inside) c.args.rec.now c.task-task.result.0 c.task_of.result.now c.self.invariant.kept
+    (known (goal.at.take_bound-requires-clause-room c).After-task_of)
+
+pub count_of-requires : goal.count_of-requires
+count_of-requires c =
+    let few = late_count (shelf_of c.self.inside) c.args.rec.now c.task-task.result.0 c.args.rec.now.task c.task_of.result.now c.take_bound.new.statuses.items
+    c.self.invariant.kept (known (goal.at.count_of-requires c).After-task_of) c.take_bound.ensures.told in
+    let seen = ap (λ (l : List Status). length l) c.deref-2.ensures.value in
+    omega (arith, few.1)
+
+pub index_mut-requires : goal.index_mut-requires
+index_mut-requires c =
+    let r = known (goal.at.index_mut-requires c).After-task_of in
+    let within = place_within (shelf_of c.self.inside) c.args.rec.now c.task-task.result.0 c.task_of.result.now phase.Returned c.self.invariant.kept r.here in
+    let len = c.self.inside.phases.len in
+    omega arith
 
 pub overflow_sub-self : goal.overflow_sub-self
 overflow_sub-self c =
-    let some = some_unreleased (shelf_of c.self.inside) c.args.rec.now c.task-task.result.0 _ c.self.invariant
-    (here (goal.at.overflow_sub-self c).After-task-task) in
+    let r = known (goal.at.overflow_sub-self c).After-task_of in
+    let some = some_unreleased (shelf_of c.self.inside) c.args.rec.now c.task-task.result.0 c.task_of.result.now c.self.invariant r.here in
     omega arith
 
 pub set-requires : goal.set-requires
 set-requires c =
-    let within = place_within (shelf_of c.self.inside) c.args.rec.now c.task-task.result.0 _ phase.Returned c.self.invariant.kept
-    (here (goal.at.set-requires c).After-task-task) in
+    let r = known (goal.at.set-requires c).After-task_of in
+    let within = place_within (shelf_of c.self.inside) c.args.rec.now c.task-task.result.0 c.task_of.result.now phase.Returned c.self.invariant.kept r.here in
     let long = c.self.invariant.counted.long in
     omega arith
+
+pub release-requires-clause-handed : goal.release-requires-clause-handed
+release-requires-clause-handed c =
+    let r = known (goal.at.release-requires-clause-handed c).After-task_of in
+    handed_of (shelf_of c.self.inside) c.args.rec.now c.task-task.result.0 c.task_of.result.now phase.Returned phase.Returned c.self.invariant.kept r.here
+    r.here.stands.0 (λ e. absurd (cc e))
+
+pub release-requires-clause-held : goal.release-requires-clause-held
+release-requires-clause-held c =
+    let r = known (goal.at.release-requires-clause-held c).After-task_of in
+    still_held (shelf_of c.self.inside) c.task-task.result.0 r.here.was c.self.invariant.kept r.here.is_task (rw r.here.stands.0 refl)
+
+pub note-requires : goal.note-requires
+note-requires c =
+    let r = known (goal.at.note-requires c).After-task_of in
+    room_at (shelf_of c.self.inside) c.args.rec.now c.task-task.result.0 c.task_of.result.now phase.Returned phase.Returned c.self.invariant.kept r.here
+    r.here.stands.0 (omega arith)
 
 -- the memory that was lent comes back with what the release has put there
 back : (c : After-note) → take c.self.inside.memory.len (c.save.new.memory ++ drop (length c.save.new.memory) c.self.inside.memory.items) ≡ c.save.new.memory
@@ -80,36 +103,65 @@ long_back : (c : After-note) → length (take c.self.inside.memory.len (c.save.n
 unfolding back
 long_back c = ap (λ (z : List ℤ). length z) (back c) ∙ c.save.auto.memory ∙ ap (λ (z : List ℤ). length z) c.deref_mut.ensures.value
 
--- what was put there, in the state's own terms
-put : (c : After-note) → (h : Held (shelf_of c.self.inside) c.args.rec.now c.task-task.result.0 (stands (goal.at.returns c).After-task-task).def phase.Returned)
-    → take c.self.inside.memory.len (c.save.new.memory ++ drop (length c.save.new.memory) c.self.inside.memory.items)
-    ≡ saved (shelf_of c.self.inside).program (stands (goal.at.returns c).After-task-task).def h.was.copy (state_now (shelf_of c.self.inside)).memory
-put c h =
+-- the record with what was bound in its copy
+stored : (c : After-note) → (r : Releases (shelf_of c.self.inside) c.args.rec.now c.task-task.result.0 c.task_of.result.now)
+    → c.take_bound.new.rec ≡ record c.args.rec.now {
+      copy = taken_at_release (shelf_of c.self.inside).program (state_now (shelf_of c.self.inside)).exchange c.task-task.result.0 c.task_of.result.now
+          r.here.was.named r.here.was.copy;
+    }
+stored c r =
+    late_stored (shelf_of c.self.inside) c.args.rec.now c.take_bound.new.rec c.task-task.result.0 c.task_of.result.now c.self.invariant.kept r
+    c.take_bound.ensures.stored
+
+-- what the calls have answered
+goes : (c : After-note) → (r : Releases (shelf_of c.self.inside) c.args.rec.now c.task-task.result.0 c.task_of.result.now)
+    → LetsGo (shelf_of c.self.inside) c.task-task.result.0 c.task_of.result.now r.here.was c.release.new.self
+    (take c.self.inside.memory.len (c.save.new.memory ++ drop (length c.save.new.memory) c.self.inside.memory.items)) c.take_bound.new.statuses.items
+    c.note.new.list.items c.count_of-from.result (c.count_of.result - c.count_of-from.result) c.clear.new.self.items
+goes c r =
     let s = shelf_of c.self.inside in
-    back c ∙ saved_now s c.args.rec.now c.task-task.result.0 _ c.args.prog.now _ c.save.new.memory c.self.invariant.kept h
-    (same_program s c.args.self.now c.args.prog.now c.self.view_is c.requires.same) c.deref_mut.ensures.value c.save.ensures
+    let held = c.args.rec.now in
+    let t = c.task-task.result.0 in
+    let d = c.task_of.result.now in
+    let from = c.count_of-from.ensures ∙ ap (λ (l : List Status). length l) c.deref.ensures.value in
+    let until = c.count_of.ensures ∙ ap (λ (l : List Status). length l) c.deref-2.ensures.value in
+    let more = late_count s held t held.task d c.take_bound.new.statuses.items c.self.invariant.kept r c.take_bound.ensures.told in
+    record {
+      put = back c ∙ saved_now s held c.take_bound.new.rec t d c.args.prog.now _ c.save.new.memory c.self.invariant.kept r (stored c r)
+          (same_program s c.args.self.now c.args.prog.now c.self.view_is c.requires.same) c.deref_mut.ensures.value c.save.ensures;
+      of_program = c.release.ensures.program;
+      marks = c.release.ensures.handed;
+      freed = c.release.ensures.released;
+      whole = c.release.ensures.places;
+      told = c.take_bound.ensures.told
+          ∙ ap (λ (z : List Status). c.self.inside.statuses.items ++ z) (late_tells s held t held.task d c.self.invariant.kept r (sym c.task-task.ensures));
+      from_is = from;
+      count_is = omega (arith, from, until, more.0);
+      grown = c.note.ensures.items;
+      none = c.clear.ensures.items;
+    }
 
 pub invariant_of-self : goal.invariant_of-self
 invariant_of-self c =
     let s = shelf_of c.self.inside in
     let held = c.args.rec.now in
     let t = c.task-task.result.0 in
-    let at = (goal.at.invariant_of-self c).After-task-task in
+    let d = c.task_of.result.now in
     let noted = (goal.at.invariant_of-self c).After-note in
-    let d = (stands at).def in
-    let h = here at in
-    let is_put = put noted h in
-    let m = release_moved s held t c.count_of-from.result _ d c.release.new.self _ c.note.new.list.items c.set.new.self c.clear.new.self.items _
-    (vec_capacity c.clear.new.self) c.self.invariant.kept h is_put
-    c.release.ensures.program c.release.ensures.handed c.release.ensures.released c.release.ensures.places
-    (c.count_of-from.ensures ∙ ap (λ l. length l) c.deref.ensures.value) c.note.ensures.items c.clear.ensures.items
-    c.note.ensures.places (omega (arith, c.clear.ensures.capacity)) in
-    let changed = release_changed s held t d _ c.self.invariant.kept h (may at) is_put (long_back noted) in
+    let r = known (goal.at.invariant_of-self c).After-task_of in
+    let answers = goes noted r in
+    let m = release_moved s held t c.count_of-from.result (c.count_of.result - c.count_of-from.result) (c.self.inside.unreleased - 1) d c.release.new.self _
+    c.take_bound.new.statuses.items c.note.new.list.items c.set.new.self c.clear.new.self.items (vec_capacity c.note.new.list)
+    (vec_capacity c.take_bound.new.statuses) (vec_capacity c.clear.new.self) c.self.invariant.kept r answers c.note.ensures.places
+    c.take_bound.ensures.places (omega (arith, c.clear.ensures.capacity)) in
+    let changed = release_changed s held t d _ c.self.invariant.kept r answers.put (long_back noted) in
+    let same = bound_kept s _ t d r.here.was _ _ _ changed m refl in
     record {
-      kept = book_after s _ t d h.was _ _ _ c.self.invariant.kept changed m;
-      counted = release_counted s held t _ d c.release.new.self.handed c.set.new.self _ c.self.invariant h c.release.ensures.handed refl c.set.ensures
-          (gone_more s _ t d h.was _ _ _ changed m (rw h.stands.0 refl));
-      numbered = release_numbered s held t d c.self.invariant h;
+      kept = book_after s _ t d r.here.was _ _ _ c.self.invariant.kept changed m;
+      counted = release_counted s held t _ d c.release.new.self.handed c.set.new.self _ _ c.self.invariant r.here c.release.ensures.handed refl c.set.ensures
+          (gone_more s _ t d r.here.was _ _ _ changed m (rw r.here.stands.0 refl)) same;
+      numbered = release_numbered s held t d c.self.invariant r.here;
+      binding = binding_kept s _ c.self.invariant same;
     }
 
 pub returns : goal.returns
@@ -117,18 +169,16 @@ returns c =
     let s = shelf_of c.self.inside in
     let held = c.args.rec.now in
     let t = c.task-task.result.0 in
-    let at = (goal.at.returns c).After-task-task in
+    let d = c.task_of.result.now in
     let noted = (goal.at.returns c).After-note in
-    let d = (stands at).def in
-    let h = here at in
-    let is_put = put noted h in
-    let m = release_moved s held t c.count_of-from.result (c.self.inside.unreleased - 1) d c.release.new.self _ c.note.new.list.items c.set.new.self
-    c.clear.new.self.items _ (vec_capacity c.clear.new.self) c.self.invariant.kept h is_put
-    c.release.ensures.program c.release.ensures.handed c.release.ensures.released c.release.ensures.places
-    (c.count_of-from.ensures ∙ ap (λ l. length l) c.deref.ensures.value) c.note.ensures.items c.clear.ensures.items
-    c.note.ensures.places (omega (arith, c.clear.ensures.capacity)) in
-    let changed = release_changed s held t d _ c.self.invariant.kept h (may at) is_put (long_back noted) in
-    let left = release_left s held c.go.new.self t d c.self.invariant.kept h c.go.ensures in
-    makes_move s _ held c.go.new.self t d h.was _ _ _ (book_after s _ t d h.was _ _ _ c.self.invariant.kept changed m) changed m h.who h.program
-    (left ∙ sym (left_as s held t d phase.Returned h))
-    (subst (λ (z : Record). StandsAs d z.phase z.copy (released_task h.was)) (sym c.go.ensures) (refl, h.stands.1)) c.args.self.now c.self.view_is
+    let r = known (goal.at.returns c).After-task_of in
+    let answers = goes noted r in
+    let m = release_moved s held t c.count_of-from.result (c.count_of.result - c.count_of-from.result) (c.self.inside.unreleased - 1) d c.release.new.self _
+    c.take_bound.new.statuses.items c.note.new.list.items c.set.new.self c.clear.new.self.items (vec_capacity c.note.new.list)
+    (vec_capacity c.take_bound.new.statuses) (vec_capacity c.clear.new.self) c.self.invariant.kept r answers c.note.ensures.places
+    c.take_bound.ensures.places (omega (arith, c.clear.ensures.capacity)) in
+    let changed = release_changed s held t d _ c.self.invariant.kept r answers.put (long_back noted) in
+    makes_move s _ held c.go.new.self t d r.here.was _ _ _ (book_after s _ t d r.here.was _ _ _ c.self.invariant.kept changed m) changed m r.here.who
+    r.here.program
+    (release_left s held c.take_bound.new.rec c.go.new.self t d r (stored noted r) c.go.ensures ∙ sym (left_as s held t d phase.Returned r.here))
+    (release_stands s held c.take_bound.new.rec c.go.new.self t d r (stored noted r) c.go.ensures) c.args.self.now c.self.view_is

@@ -1,6 +1,7 @@
 -- The book after a return, and the record.
 use Rattle.std.proofs.Common.{◌∙◌, sym, subst, refl, arith}
 use Rattle.std.specs.Prelude.{vec_capacity}
+use Rattle.std.proofs.lemmas.Option.{slice_get_within}
 use Rattle.rt_base.specs.declared.data.Phase.TheVariants as phase
 use Rattle.rt_base.specs.declared.data.Program.{Program}
 use Rattle.rt_base.specs.declared.data.Entry.{Entry}
@@ -10,8 +11,10 @@ use Rattle.task_machine.specs.Legal.{final}
 use Rattle.core_book.specs.Kept.{state_now}
 use Rattle.core_book.proofs.Insides.{shelf_of}
 use Rattle.core_book.proofs.Moved.{book_after, gone_more, makes_move}
-use Rattle.core_book.proofs.Held.{Held, held_as, own, room_at}
+use Rattle.core_book.proofs.Held.{Held, held_as, own, room_at, place_within}
 use Rattle.core_book.proofs.BookMoves.{left_as, returned_task, ret_changed, ret_moved}
+use Rattle.core_book.proofs.BoundAfter.{bound_kept}
+use Rattle.core_book.proofs.BindingMoves.{binding_kept}
 use Rattle.core_book.proofs.CountMoves.{ret_counted}
 use Rattle.core_book.proofs.Numbers.{ret_numbered}
 use Rattle.core_book.proofs.book.Book.ret.Goals as goal
@@ -31,6 +34,20 @@ note-requires c =
     let h = here (goal.at.note-requires c).After-task-task in
     room_at (shelf_of c.self.inside) c.args.rec.now c.task-task.result.0 _ phase.Ended phase.Ended c.self.invariant.kept h h.stands.0 (omega arith)
 
+pub at-open-requires : goal.at-open-requires
+at-open-requires c =
+    let h = here (goal.at.at-open-requires c).After-task-task in
+    let within = slice_get_within (shelf_of c.self.inside).program.tasks.items c.task-task.result.0 _ h.is_def in
+    let long = c.self.invariant.binding.long_incomplete in
+    omega arith
+
+pub set-requires : goal.set-requires
+set-requires c =
+    let h = here (goal.at.set-requires c).After-task-task in
+    let within = place_within (shelf_of c.self.inside) c.args.rec.now c.task-task.result.0 _ phase.Ended c.self.invariant.kept h in
+    let long = c.self.invariant.counted.long in
+    omega arith
+
 pub invariant_of-self : goal.invariant_of-self
 invariant_of-self c =
     let s = shelf_of c.self.inside in
@@ -39,12 +56,15 @@ invariant_of-self c =
     let at = (goal.at.invariant_of-self c).After-task-task in
     let d = (stands at).def in
     let h = here at in
-    let m = ret_moved s held t d c.note.new.list.items c.clear.new.self.items _ (vec_capacity c.clear.new.self) c.self.invariant.kept h c.note.ensures.items
-    c.clear.ensures.items c.note.ensures.places (omega (arith, c.clear.ensures.capacity)) in
+    let m = ret_moved s held t d c.note.new.list.items c.set.new.self c.clear.new.self.items _ (vec_capacity c.clear.new.self)
+    c.self.invariant.kept h c.note.ensures.items c.clear.ensures.items c.note.ensures.places (omega (arith, c.clear.ensures.capacity)) in
     let changed = ret_changed s held t d c.self.invariant.kept h in
+    let same = bound_kept s _ t d h.was _ _ _ changed m refl in
     record {
       kept = book_after s _ t d h.was _ _ _ c.self.invariant.kept changed m;
-      counted = ret_counted s held t d _ c.self.invariant h (gone_more s _ t d h.was _ _ _ changed m (rw h.stands.0 refl));
+      counted = ret_counted s held t c.at-open.result d c.set.new.self _ _ c.self.invariant h c.at-open.ensures c.set.ensures
+          (gone_more s _ t d h.was _ _ _ changed m (rw h.stands.0 refl)) same;
+      binding = binding_kept s _ c.self.invariant same;
       numbered = ret_numbered s held t d c.self.invariant h;
     }
 
@@ -56,8 +76,8 @@ returns c =
     let at = (goal.at.returns c).After-task-task in
     let d = (stands at).def in
     let h = here at in
-    let m = ret_moved s held t d c.note.new.list.items c.clear.new.self.items _ (vec_capacity c.clear.new.self) c.self.invariant.kept h c.note.ensures.items
-    c.clear.ensures.items c.note.ensures.places (omega (arith, c.clear.ensures.capacity)) in
+    let m = ret_moved s held t d c.note.new.list.items c.set.new.self c.clear.new.self.items _ (vec_capacity c.clear.new.self)
+    c.self.invariant.kept h c.note.ensures.items c.clear.ensures.items c.note.ensures.places (omega (arith, c.clear.ensures.capacity)) in
     let changed = ret_changed s held t d c.self.invariant.kept h in
     makes_move s _ held c.go.new.self t d h.was _ _ _ (book_after s _ t d h.was _ _ _ c.self.invariant.kept changed m) changed m h.who h.program
     (c.go.ensures ∙ sym (left_as s held t d phase.Ended h))

@@ -13,6 +13,8 @@ use Rattle.core_book.proofs.Insides.{shelf_of}
 use Rattle.core_book.proofs.Moved.{IsMoved, book_after, gone_more, makes_move}
 use Rattle.core_book.proofs.Held.{Held, held_at, may_move, room_at, same_program}
 use Rattle.core_book.proofs.BookMoves.{left_as, shelf_after, started_task, start_changed, start_moved, start_left, start_stands}
+use Rattle.core_book.proofs.BoundAfter.{bound_kept}
+use Rattle.core_book.proofs.BindingMoves.{binding_kept}
 use Rattle.core_book.proofs.CountMoves.{start_counted}
 use Rattle.core_book.proofs.Numbers.{start_numbered}
 use Rattle.core_book.proofs.book.Book.start.Goals as goal
@@ -36,8 +38,8 @@ mine c =
 
 -- the insides after the start
 abbrev later : (c : After-note) → Shelf
-later c = shelf_after (shelf_of c.self.inside) c.task-task.result.0 c.stop.result c.note.new.list.items c.clear.new.self.items
-    (vec_capacity c.note.new.list) (vec_capacity c.clear.new.self)
+later c = shelf_after (shelf_of c.self.inside) c.task-task.result.0 c.stop.result c.note.new.list.items c.self.inside.waits
+    c.clear.new.self.items (vec_capacity c.note.new.list) (vec_capacity c.clear.new.self)
 
 moved : (c : After-note) → (h : Held (shelf_of c.self.inside) c.args.rec.now c.task-task.result.0 c.task_of-def.result.now phase.Waiting)
     → slice_get (shelf_of c.self.inside).ready.handed c.task-task.result.0 ≡ Some true
@@ -67,10 +69,12 @@ invariant_of-self c =
     let h = here at in
     let m = moved (goal.at.invariant_of-self c).After-note h (mine at) in
     let changed = start_changed s c.args.rec.now t d c.self.invariant.kept h (may at) in
+    let same = bound_kept s _ t d h.was _ _ _ changed m refl in
     record {
       kept = book_after s _ t d h.was _ _ _ c.self.invariant.kept changed m;
-      counted = start_counted s c.args.rec.now t d c.stop.result _ c.self.invariant h (mine at) c.stop.ensures
-          (gone_more s _ t d h.was _ _ _ changed m (rw h.stands refl));
+      counted = start_counted s c.args.rec.now t d c.stop.result _ _ c.self.invariant h (mine at) c.stop.ensures
+          (gone_more s _ t d h.was _ _ _ changed m (rw h.stands refl)) same;
+      binding = binding_kept s _ c.self.invariant same;
       numbered = start_numbered s c.args.rec.now t d c.stop.result c.self.invariant h c.stop.ensures;
     }
 

@@ -1,9 +1,8 @@
 -- The book after the call of a wait, and the record.
-use Rattle.std.proofs.Common.{◌≡◌, ◌∙◌, ◌+◌, ◌<◌, ℕ, sym, ap, List, ◌++◌, length, refl, arith}
+use Rattle.std.proofs.Common.{◌≡◌, ◌∙◌, ◌<◌, sym, ap, List, ◌++◌, length, refl, arith}
 use Rattle.std.specs.Prelude.{vec_capacity}
 use Rattle.rt_base.specs.declared.data.ReqNo.{ReqNo}
 use Rattle.rt_base.specs.declared.data.Handle.{Handle}
-use Rattle.rt_base.specs.declared.data.Phase.{Phase}
 use Rattle.rt_base.specs.declared.data.Phase.TheVariants as phase
 use Rattle.rt_base.specs.Operations.{named_requests}
 use Rattle.task_machine.specs.Machine.{wait_move, open_ones}
@@ -12,7 +11,10 @@ use Rattle.core_book.proofs.Insides.{shelf_of}
 use Rattle.core_book.proofs.Moved.{IsMoved, book_after, gone_more, makes_move}
 use Rattle.core_book.proofs.Held.{room_at, place_within}
 use Rattle.core_book.proofs.BookMoves.{left_as}
-use Rattle.core_book.proofs.WaitLemmas.{Waits, waits, named_are, wait_room, few_named, shelf_waiting, waiting_in, wait_changed, wait_moved, wait_counted, wait_numbered, wait_left, wait_stands, wait_pending}
+use Rattle.core_book.proofs.BoundAfter.{bound_kept}
+use Rattle.core_book.proofs.BindingMoves.{binding_kept}
+use Rattle.core_book.proofs.WaitLemmas.{Waits, waits, named_are, wait_room, few_named, shelf_waiting, waiting_in, wait_changed, wait_moved, wait_counted}
+use Rattle.core_book.proofs.WaitLemmas.{wait_numbered, wait_left, wait_stands, wait_pending}
 use Rattle.core_book.proofs.book.Book.wait.Goals as goal
 use Rattle.core_book.proofs.book.Book.wait.Goals.{After-clear, After-note}
 
@@ -96,10 +98,12 @@ invariant_of-self c =
     let same = named at w in
     let m = moved (goal.at.invariant_of-self c).After-note w same in
     let changed = wait_changed s held t c.args.k d c.self.invariant.kept w in
+    let as_before = bound_kept s _ t d w.it.here.was _ _ _ changed m refl in
     record {
       kept = book_after s _ t d w.it.here.was _ _ _ c.self.invariant.kept changed m;
-      counted = wait_counted s held t c.args.k c.open_among-pending.result d c.handles_at-handles.result.now c.set.new.self _ c.self.invariant w same
-          c.open_among-pending.ensures c.set.ensures (gone_more s _ t d w.it.here.was _ _ _ changed m (rw w.it.at refl));
+      counted = wait_counted s held t c.args.k c.open_among-pending.result d c.handles_at-handles.result.now c.set.new.self _ _ c.self.invariant w same
+          c.open_among-pending.ensures c.set.ensures (gone_more s _ t d w.it.here.was _ _ _ changed m (rw w.it.at refl)) as_before;
+      binding = binding_kept s _ c.self.invariant as_before;
       numbered = wait_numbered s held t c.args.k d c.self.invariant w;
     }
 

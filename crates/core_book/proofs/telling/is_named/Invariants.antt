@@ -2,7 +2,7 @@ use Rattle.std.proofs.Common.{◌≡◌, ℕ, drop}
 use Rattle.std.specs.List.{list_any}
 use Rattle.rt_base.specs.Operations.{request, named_requests}
 use Rattle.rt_base.specs.Matching.{same_request}
-use Rattle.core_book.proofs.posting.is_named.Given as goal
+use Rattle.core_book.proofs.telling.is_named.Given as goal
 
 -- the request is named exactly where it is among the rest
 abbrev pub invariant-loop-handle : goal.invariant-loop-handle

@@ -9,7 +9,7 @@ use Rattle.std.specs.List.{list_any}
 use Rattle.std.specs.Prelude.{◌==◌, ◌&&◌}
 use Rattle.core_book.proofs.Questions.{at_place, awaited_among, none_among_past, one_among}
 use Rattle.core_book.proofs.Numbers.{number_some, last_number, posting_number}
-use Rattle.core_book.proofs.posting.is_awaited_in.Goals as goal
+use Rattle.core_book.proofs.telling.is_awaited_in.Goals as goal
 
 pub returns-then-k-len : goal.returns-then-k-len
 returns-then-k-len c = none_among_past c.args.def.now c.args.k c.args.req (omega arith)

@@ -2,7 +2,7 @@
 use Rattle.std.proofs.Common.{refl}
 use Rattle.rt_base.specs.declared.data.Phase.TheVariants as phase
 use Rattle.core_book.proofs.Questions.{phase_at_place, awaits_nothing, awaits_there}
-use Rattle.core_book.proofs.posting.is_awaited.Goals as goal
+use Rattle.core_book.proofs.telling.is_awaited.Goals as goal
 
 pub is_awaited_in-requires : goal.is_awaited_in-requires
 is_awaited_in-requires c =

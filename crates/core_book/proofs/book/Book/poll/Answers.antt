@@ -1,0 +1,30 @@
+-- The book after a poll, and what its caller sees.
+use Rattle.std.proofs.Common.{sym, ◌<◌, subst, arith}
+use Rattle.std.specs.Prelude.{vec_capacity}
+use Rattle.std.specs.VecDeque.{deque_capacity}
+use Rattle.core_book.specs.Ledger.{Ledger}
+use Rattle.core_book.proofs.Insides.{shelf_of}
+use Rattle.core_book.proofs.Polled.{Polls, book_polled, takes_notice}
+use Rattle.core_book.proofs.book.Book.poll.Goals as goal
+use Rattle.core_book.proofs.book.Book.poll.Goals.{After-note}
+
+polls : (c : After-note) → Polls (shelf_of c.self.inside) c.args.poller c.in-Some.req c.pop_front.new.self.items c.note.new.list.items
+    (vec_capacity c.note.new.list) (deque_capacity c.pop_front.new.self)
+polls c = record {
+  kept = c.self.invariant.kept;
+  exists = subst (λ (l : Ledger). c.args.poller < l.workers) (sym c.self.view_is) c.requires.exists;
+  first = c.in-Some.ensures.items;
+  grown = c.note.ensures.items;
+  entry_places = c.note.ensures.places;
+  notice_places = omega (arith, c.in-Some.ensures.capacity);
+}
+
+pub invariant_of-self : goal.invariant_of-self
+invariant_of-self c =
+    book_polled (shelf_of c.self.inside) c.args.poller c.in-Some.req c.pop_front.new.self.items c.note.new.list.items _ _ c.self.invariant
+    (polls (goal.at.invariant_of-self c).After-note)
+
+pub returns : goal.returns
+returns c =
+    takes_notice (shelf_of c.self.inside) c.args.poller c.in-Some.req c.pop_front.new.self.items c.note.new.list.items _ _ c.args.self.now
+    (polls (goal.at.returns c).After-note) c.self.view_is
