@@ -1,6 +1,6 @@
 -- How a record stands right before the move of its task.
-use Rattle.std.proofs.Common.{◌≡◌, ◌≢◌, ℕ, Bool, true, false, List, slice_get, Option, Some, None, refl, sym, ap, ◌∙◌, subst}
-use Rattle.std.specs.Prelude.{All, ℤ}
+use Rattle.std.proofs.Common.{◌≡◌, ◌≢◌, ℕ, Bool, true, List, slice_get, Option, Some, None, refl, sym, ap, ◌∙◌, subst}
+use Rattle.std.specs.Prelude.{ℤ}
 use Rattle.rt_base.specs.declared.data.Phase.{Phase}
 use Rattle.rt_base.specs.declared.data.Phase.TheVariants as phase
 use Rattle.rt_base.specs.declared.data.Op.{Op}
@@ -13,31 +13,16 @@ use Rattle.task_local.specs.declared.standing.At.TheVariants as at
 use Rattle.task_local.specs.StandsFor.{Record, StandsFor, StandsAs}
 use Rattle.task_local.specs.Standing.{def, at_phase, at_operation, moved_on, IsCall, IsAtCall}
 use Rattle.task_local.proofs.Stands.{stands_after_moved_on}
-use Rattle.core_book.specs.Ledger.{IsInOperation, is_binding, is_at_binding}
-use Rattle.plain_run.specs.Plain.{IsPlain, IsPlainOperation}
+use Rattle.core_book.specs.Ledger.{IsInOperation}
 use Rattle.plain_run.specs.Turns.{is_started, IsPlaced, IsInLine}
-use Rattle.plain_run.proofs.Others.{IsAble, stop_able, stop_is_started, all_at}
-use Rattle.plain_run.proofs.Lines.{own_line_def, not_released}
+use Rattle.plain_run.proofs.Others.{IsAble, stop_able, stop_is_started}
+use Rattle.plain_run.proofs.Lines.{not_released}
 
 -- a record whose task is about to move
 pub record IsBefore (p : Program) (s : State) (held : Record) : Type 0 where
   pub stands : StandsFor p held s
   pub able : IsAble (def held) held.phase
   pub started : held.phase ≢ phase.Waiting
-  pub unbinding : is_at_binding (def held) held.phase ≡ false
-
--- a body that binds nothing does so nowhere
-binds_not : (ops : List Op) (k : ℕ) (o : Option Op) → slice_get ops k ≡ o → All IsPlainOperation ops → is_binding o ≡ false
-binds_not ops k None here plain = refl
-binds_not ops k (Some x) here plain = all_at IsPlainOperation ops k x plain here
-
-never_binds : (d : TaskDef) (from : Phase) → All IsPlainOperation d.body.items → is_at_binding d from ≡ false
-never_binds d phase.Waiting plain = refl
-never_binds d (phase.At k) plain = binds_not d.body.items k (slice_get d.body.items k) refl plain
-never_binds d (phase.In k) plain = refl
-never_binds d phase.Ended plain = refl
-never_binds d phase.Returned plain = refl
-never_binds d phase.Released plain = refl
 
 -- local operations lead to a call, or to the end
 moved_able : (d : TaskDef) (from : Phase) (held : Record) → held.phase ≡ from → IsPlaced d from → from ≢ phase.Released
@@ -69,14 +54,10 @@ moved_def d phase.Released held = refl
 still_holds : (d : TaskDef) (from : Phase) (copy : List ℤ) (task : Task) → StandsAs d from copy task → task.phase ≢ phase.Released → from ≢ phase.Released
 still_holds d from copy task stands unreleased = λ released. unreleased (subst (λ (q : Phase). StandsAs d q copy task) released stands).0
 
-pub is_before : (p : Program) (s : State) (handed : List Bool) (t : ℕ) (held mid : Record) → IsPlain p → IsInLine p s handed t held
+pub is_before : (p : Program) (s : State) (handed : List Bool) (t : ℕ) (held mid : Record) → IsInLine p s handed t held
     → held.phase ≢ phase.Waiting → MayMove p s t
     → mid ≡ moved_on (def held) held.phase held → IsBefore p s mid
-is_before p s handed t held mid plain line started may moved =
-    let own : def held ≡ line.stands.def = own_line_def p held s line.stands in
-    let body : All IsPlainOperation (def held).body.items =
-    subst (λ (d : TaskDef). All IsPlainOperation d.body.items) (sym own)
-    (all_at (λ (d : TaskDef). All IsPlainOperation d.body.items) p.tasks.items held.task line.stands.def plain line.stands.is_def) in
+is_before p s handed t held mid line started may moved =
     let after : Record = moved_on (def held) held.phase held in
     let is_task : slice_get s.tasks t ≡ Some line.stands.task = ap (slice_get s.tasks) (sym line.mine) ∙ line.stands.is_task in
     let unreleased : held.phase ≢ phase.Released = still_holds line.stands.def held.phase held.copy line.stands.task line.stands.stands
@@ -86,8 +67,6 @@ is_before p s handed t held mid plain line started may moved =
       able = subst (λ (d : TaskDef). IsAble d after.phase) (sym (moved_def (def held) held.phase held))
           (moved_able (def held) held.phase held refl line.placed unreleased);
       started = λ waits. absurd (cc (moved_started (def held) held.phase held refl started, ap is_started waits));
-      unbinding = subst (λ (d : TaskDef). is_at_binding d after.phase ≡ false) (sym (moved_def (def held) held.phase held))
-          (never_binds (def held) after.phase body);
     })
 
 -- how the task stands before a call

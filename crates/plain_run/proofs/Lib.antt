@@ -2,3 +2,4 @@ mod Others
 mod Lines
 mod Before
 mod Picks
+mod Polls

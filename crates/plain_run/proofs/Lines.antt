@@ -1,5 +1,6 @@
 -- The records of all tasks stand for them before and after each move.
-use Rattle.std.proofs.Common.{◌≡◌, ◌≢◌, ℕ, zero, suc, ◌+◌, ◌<◌, ◌≤◌, Bool, true, false, ◌⊎◌, List, [], ◌∷◌, ◌++◌, length, take, drop, slice_get, slice_set, replicate, Some, refl, sym, ap, ◌∙◌, subst, inl, inr, arith}
+use Rattle.std.proofs.Common.{◌≡◌, ◌≢◌, ℕ, zero, suc, ◌+◌, ◌*◌, ◌<◌, ◌≤◌, Bool, true, false, ◌⊎◌, List, [], ◌∷◌, ◌++◌, length, take, drop, slice_get}
+use Rattle.std.proofs.Common.{slice_set, replicate, Some, refl, sym, ap, ◌∙◌, subst, inl, inr, arith}
 use Rattle.std.specs.Prelude.{ℤ, option_map}
 use Rattle.std.proofs.Math.ListN.{length-set}
 use Rattle.std.proofs.Math.Seq.{take-append_seam}
@@ -17,7 +18,7 @@ use Rattle.task_machine.specs.Machine.{move}
 use Rattle.task_machine.specs.Legal.{final, phases_of, IsQuiet}
 use Rattle.core_book.specs.Ledger.{Ledger, MakesMove, new_ledger}
 use Rattle.task_machine.specs.Course.{all_left}
-use Rattle.plain_run.specs.Turns.{is_started, IsPlaced, IsInLine, AreInLine, IsFresh, AreFresh, left, GoesOn, EndsTurn, IsRunning}
+use Rattle.plain_run.specs.Turns.{is_started, IsPlaced, IsInLine, AreInLine, IsFresh, AreFresh, left, turns_left, GoesOn, EndsTurn, IsRunning}
 use Rattle.task_machine.proofs.Lists.{slice_get-set_same, slice_get-set_other, slice_get-map}
 use Rattle.task_machine.proofs.Items.{same_some, either_place, at_replicate}
 use Rattle.task_machine.proofs.Moves.{all_left-set}
@@ -133,6 +134,7 @@ record Onward (p : Program) (s new : State) (marks : List Bool) (recs : List Rec
   counted : length recs ≡ length p.tasks.items
   each : (u : ℕ) (held : Record) → slice_get recs u ≡ Some held → IsInLine p new marks u held
   fewer : all_left p.tasks.items (phases_of new.tasks) + 1 ≤ all_left p.tasks.items (phases_of s.tasks)
+  noticed : length new.notices ≤ length s.notices + 1
 
 onward : (p : Program) (s new : State) (old marks : List Bool) (recs : List Record) (t : ℕ) (before after : Record) → MayMove p s t
     → length recs ≡ length p.tasks.items → ((u : ℕ) (held : Record) → slice_get recs u ≡ Some held → IsInLine p s old u held)
@@ -154,7 +156,12 @@ onward p s new old marks recs t before after may counted each others given here 
             (each u held other.1)
       ];
       fewer = fewer_left p s new t a.stands.def a.stands.task (move p s t).entry moves is_def is_task;
+      noticed = moves.noticed;
     }
+
+-- a move takes one from the moves that are left and adds at most one notice
+fewer_turns : (left left' notices notices' : ℕ) → left' + 1 ≤ left → notices' ≤ notices + 1 → (2 * left' + notices') + 1 ≤ 2 * left + notices
+fewer_turns left left' notices notices' fewer more = omega arith
 
 -- a turn: the records are in line after a move of one of them
 pub goes_on : (old new : Ledger) (marks : List Bool) (recs : List Record) (t : ℕ) (before mid after : Record) → mid.task ≡ before.task
@@ -177,7 +184,8 @@ goes_on old new marks recs t before mid after same_task line others given here m
         each = λ u held there. subst (λ (q : Program). IsInLine q (final q new.history) new.handed u held) (sym made.program)
             (subst (λ (h : List Bool). IsInLine p (final p new.history) h u held) (sym made.handed) (now.each u held there));
       };
-      fewer = subst (λ (q : Program). all_left q.tasks.items (phases_of (final q new.history).tasks) + 1 ≤ left old) (sym made.program) now.fewer;
+      fewer = subst (λ (q : Program). (2 * all_left q.tasks.items (phases_of (final q new.history).tasks) + length (final q new.history).notices) + 1
+          ≤ turns_left old) (sym made.program) (fewer_turns (left old) _ (length s.notices) _ now.fewer now.noticed);
     }
 
 -- an item of a list with one more
@@ -247,10 +255,26 @@ still_running p old new before after len true counted running turn made =
           ∙ counted))) turn.in_line;
     }
 
--- the run at its end
+-- the turn that ends the run leaves the book as it is
+unmoved : (old new : Ledger) (after : List Record) (moved : Bool) → EndsTurn old new after moved → moved ≡ false
+    → (new ≡ old) × IsQuiet old.program (final old.program old.history)
+unmoved old new after true turn still = absurd (cc)
+unmoved old new after false turn still = turn
+
+-- what holds before the last turn holds of the run at its end
+at_the_end : (P : Program → List Entry → Type 0) (p : Program) (old new : Ledger) (es : List Entry) → old.program ≡ p → es ≡ new.history → new ≡ old
+    → P old.program old.history → P p es
+at_the_end P p old new es programs entries same before =
+    subst (P p) (sym (entries ∙ ap (λ (l : Ledger). l.history) same)) (subst (λ (q : Program). P q old.history) programs before)
+
 pub quiet_end : (p : Program) (old new : Ledger) (after : List Record) (es : List Entry) (moved : Bool) → old.program ≡ p → es ≡ new.history
     → EndsTurn old new after moved → moved ≡ false → IsQuiet p (final p es)
-quiet_end p old new after es true programs entries turn still = absurd (cc)
-quiet_end p old new after es false programs entries turn still =
-    let histories : es ≡ old.history = entries ∙ ap (λ (l : Ledger). l.history) turn.0 in
-    subst (λ (xs : List Entry). IsQuiet p (final p xs)) (sym histories) (subst (λ (q : Program). IsQuiet q (final q old.history)) programs turn.1)
+quiet_end p old new after es moved programs entries turn still =
+    let last = unmoved old new after moved turn still in
+    at_the_end (λ (q : Program) (xs : List Entry). IsQuiet q (final q xs)) p old new es programs entries last.0 last.1
+
+pub told_end : (p : Program) (old new : Ledger) (after : List Record) (es : List Entry) (moved : Bool) → old.program ≡ p → es ≡ new.history
+    → EndsTurn old new after moved → moved ≡ false → (moved ≡ false → (final p old.history).notices ≡ []) → (final p es).notices ≡ []
+told_end p old new after es moved programs entries turn still told =
+    at_the_end (λ (q : Program) (xs : List Entry). (final p xs).notices ≡ []) p old new es programs entries (unmoved old new after moved turn still).0
+    (told still)

@@ -1,8 +1,10 @@
 -- A move of a task changes no other task, and leaves fewer moves.
-use Rattle.std.proofs.Common.{◌≡◌, ℕ, zero, suc, ◌+◌, ◌-◌, ◌*◌, ◌<◌, ◌≤◌, Bool, true, false, List, [], ◌∷◌, ◌++◌, length, drop, slice_get, slice_set, Option, Some, None, refl, sym, ap, ◌∙◌, subst, drop-drop, arith}
-use Rattle.std.specs.Prelude.{All, ⊤}
-use Rattle.std.proofs.lemmas.List.Elements.{All-get_or}
-use Rattle.std.proofs.lemmas.Option.{slice_get_within, get_or_from_slice_get}
+use Rattle.std.proofs.Common.{◌≡◌, ℕ, zero, suc, ◌+◌, ◌-◌, ◌*◌, ◌<◌, ◌≤◌, Bool, true, false, List, [], ◌∷◌, ◌++◌, length, drop, slice_get, slice_set}
+use Rattle.std.proofs.Common.{Option, Some, None, refl, sym, ap, ◌∙◌, subst, drop-drop, arith}
+use Rattle.std.specs.Prelude.{◌&&◌, not, cond, ⊤}
+use Rattle.std.proofs.lemmas.List.{length-append}
+use Rattle.std.proofs.lemmas.Option.{slice_get_within}
+use Rattle.rt_base.specs.declared.data.ReqNo.{ReqNo}
 use Rattle.rt_base.specs.declared.data.Phase.{Phase}
 use Rattle.rt_base.specs.declared.data.Phase.TheVariants as phase
 use Rattle.rt_base.specs.declared.data.Handle.{Handle}
@@ -11,13 +13,16 @@ use Rattle.rt_base.specs.declared.data.Op.TheVariants as op
 use Rattle.rt_base.specs.declared.data.Entry.{Entry}
 use Rattle.rt_base.specs.declared.data.TaskDef.{TaskDef}
 use Rattle.rt_base.specs.declared.data.Program.{Program}
-use Rattle.rt_base.specs.Operations.{blocks, named_requests}
+use Rattle.rt_base.specs.Exchange.{Exchange, partner}
+use Rattle.rt_base.specs.Completion.{is_complete}
+use Rattle.rt_base.specs.Operations.{blocks, named_requests, nth_at, request}
 use Rattle.rt_base.specs.State.{State, Task}
 use Rattle.task_local.specs.Regions.{loaded}
 use Rattle.task_local.specs.Local.{advanced, stop_at, stop}
 use Rattle.task_local.specs.Waits.{taken, taken_at_release}
+use Rattle.task_local.specs.Packed.{packed}
 use Rattle.task_local.specs.Standing.{IsCall}
-use Rattle.task_machine.specs.Machine.{Moved, move, move_at, call_move, post_move, await_move, open_ones}
+use Rattle.task_machine.specs.Machine.{Moved, move, move_at, call_move, post_move, await_move, is_expected, noticed, open_ones}
 use Rattle.task_machine.specs.Legal.{caller}
 use Rattle.task_machine.specs.Course.{moves_left}
 use Rattle.plain_run.specs.Turns.{is_started, IsPlaced}
@@ -41,6 +46,19 @@ pub record OnlyMoves (p : Program) (s : State) (t : ℕ) (def : TaskDef) (was : 
   pub started : is_started now.phase ≡ true
   pub placed : IsPlaced def now.phase
   pub fewer : moves_left (length def.body.items) now.phase + 1 ≤ moves_left (length def.body.items) was.phase
+  pub noticed : length new.notices ≤ length s.notices + 1
+
+one_or_none : (holds : Bool) (req : ReqNo) → length (cond holds (req ∷ []) []) ≤ 1
+one_or_none true req = omega arith
+one_or_none false req = omega arith
+
+-- a posting adds at most one notice
+noticed_once : (found : Option ReqNo) (p : Program) (tasks : List Task) (before : Exchange) → length (noticed p tasks before found) ≤ 1
+noticed_once None p tasks before = omega arith
+noticed_once (Some req) p tasks before = one_or_none (not (is_complete p before req) && is_expected p tasks req) req
+
+told_once : (notices more : List ReqNo) → length more ≤ 1 → length (notices ++ more) ≤ length notices + 1
+told_once notices more few = omega (arith, length-append notices more)
 
 -- where a task stops it is started, and in no operation
 stop_at_started : (k : ℕ) (ops : List Op) → is_started (stop_at k ops) ≡ true
@@ -91,6 +109,7 @@ post_row p s t def was k false at within = record {
   started = stop_is_started def (k + 1);
   placed = stop_is_placed def (k + 1);
   fewer = fewer_on def was k at within;
+  noticed = told_once s.notices _ (noticed_once (partner p s.exchange (request t (nth_at def k)) (packed def k was.copy)) p s.tasks s.exchange);
 }
 post_row p s t def was k true at within = record {
   now = record was { phase = phase.In k };
@@ -99,6 +118,7 @@ post_row p s t def was k true at within = record {
   started = refl;
   placed = within;
   fewer = fewer_in def was k at;
+  noticed = told_once s.notices _ (noticed_once (partner p s.exchange (request t (nth_at def k)) (packed def k was.copy)) p s.tasks s.exchange);
 }
 
 -- the row of a wait
@@ -112,6 +132,7 @@ await_row p s t def was k handles false at within = record {
   started = refl;
   placed = within;
   fewer = fewer_in def was k at;
+  noticed = omega arith;
 }
 await_row p s t def was k handles true at within = record {
   now = record was {
@@ -125,6 +146,7 @@ await_row p s t def was k handles true at within = record {
   started = stop_is_started def (k + 1);
   placed = stop_is_placed def (k + 1);
   fewer = fewer_on def was k at within;
+  noticed = omega arith;
 }
 
 call_row : (p : Program) (s : State) (t : ℕ) (def : TaskDef) (was : Task) (k : ℕ) (o : Option Op) → slice_get def.body.items k ≡ o → was.phase ≡ phase.At k
@@ -147,6 +169,7 @@ row p s t def was phase.Waiting waits able = record {
   started = stop_is_started def 0;
   placed = stop_is_placed def 0;
   fewer = rw waits (fewer_at_start (length def.body.items) _ (left_by_stop def 0 (omega arith)));
+  noticed = omega arith;
 }
 row p s t def was (phase.At k) at able = call_row p s t def was k (slice_get def.body.items k) refl at able
 row p s t def was (phase.In k) in_k able =
@@ -157,6 +180,7 @@ row p s t def was (phase.In k) in_k able =
       started = stop_is_started def (k + 1);
       placed = stop_is_placed def (k + 1);
       fewer = rw in_k (fewer_after_leave (length def.body.items) k _ able (left_by_stop def (k + 1) (omega arith)));
+      noticed = omega arith;
     }
 row p s t def was phase.Ended ended able = record {
   now = record was { phase = phase.Returned };
@@ -165,6 +189,7 @@ row p s t def was phase.Ended ended able = record {
   started = refl;
   placed = tt;
   fewer = rw ended (omega arith);
+  noticed = omega arith;
 }
 row p s t def was phase.Returned returned able = record {
   now = record was { phase = phase.Released; copy = taken_at_release p s.exchange t def was.named was.copy };
@@ -173,6 +198,7 @@ row p s t def was phase.Returned returned able = record {
   started = refl;
   placed = tt;
   fewer = rw returned (omega arith);
+  noticed = omega arith;
 }
 row p s t def was phase.Released released able = absurd able
 
@@ -193,10 +219,6 @@ at_drop (y ∷ ys) (suc k) x rest here = at_drop ys k x rest here
 
 rest_after : (k : ℕ) (ops rest : List Op) (x : Op) → drop k ops ≡ x ∷ rest → drop (k + 1) ops ≡ rest
 rest_after k ops rest x here = sym (drop-drop 1 k ops) ∙ ap (λ (xs : List Op). drop 1 xs) here
-
--- what holds of all holds of each
-pub all_at : {X : Type 0} (P : X → Type 0) (xs : List X) (i : ℕ) (x : X) → All P xs → slice_get xs i ≡ Some x → P x
-all_at P xs i x all here = subst P (get_or_from_slice_get xs i x x here) (All-get_or P xs i x (slice_get_within xs i x here) all)
 
 -- a body stops at a call, or at its end
 able_at : (def : TaskDef) (k : ℕ) (ops : List Op) → drop k def.body.items ≡ ops → IsAble def (stop_at k ops)

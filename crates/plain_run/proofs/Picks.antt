@@ -1,8 +1,6 @@
 -- What is known of the record of the task that a turn picks.
-use Rattle.std.proofs.Common.{◌≡◌, ◌≢◌, ℕ, ◌<◌, ◌≤◌, Bool, true, false, List, [], ◌∷◌, ◌++◌, length, slice_get, slice_set, get_or, Option, Some, refl, sym, ap, ◌∙◌, subst, append_assoc, arith}
-use Rattle.std.proofs.lemmas.Option.{slice_get_within, slice_get-get_or, slice_get_past}
-use Rattle.rt_base.specs.declared.data.TaskNo.{TaskNo}
-use Rattle.rt_base.specs.declared.data.ReqNo.{ReqNo}
+use Rattle.std.proofs.Common.{◌≡◌, ◌≢◌, ℕ, ◌<◌, Bool, true, false, List, length, slice_get, slice_set, get_or, Some, refl, sym, ap, ◌∙◌, subst, arith}
+use Rattle.std.proofs.lemmas.Option.{slice_get_within, slice_get-get_or}
 use Rattle.rt_base.specs.declared.data.Phase.{Phase}
 use Rattle.rt_base.specs.declared.data.Phase.TheVariants as phase
 use Rattle.rt_base.specs.declared.data.TaskDef.{TaskDef}
@@ -14,7 +12,7 @@ use Rattle.task_local.specs.StandsFor.{Record, StandsAs}
 use Rattle.task_local.specs.Standing.{def, moved_on}
 use Rattle.task_machine.specs.Legal.{final, IsQuiet}
 use Rattle.core_book.specs.Ledger.{Ledger, MakesMove, IsReady}
-use Rattle.plain_run.specs.Turns.{is_started, IsInLine, AreInLine, GoesOn, told_tasks}
+use Rattle.plain_run.specs.Turns.{is_started, IsInLine, AreInLine, GoesOn}
 use Rattle.task_machine.proofs.Lists.{slice_get-set_same, slice_get-set_other}
 use Rattle.plain_run.proofs.Lines.{goes_on}
 
@@ -143,8 +141,9 @@ pub given_history : (old given : Ledger) (t : ℕ) → given ≡ record old { ha
 given_history old given t handed = ap (λ (l : Ledger). l.history) handed
 
 -- the turn of a task that is ready
-pub goes_on_ready : (p : Program) (old given new : Ledger) (recs : List Record) (t : ℕ) (held after : Record) → p ≡ old.program → AreInLine old recs → IsReady old t
-    → given ≡ record old { handed = slice_set old.handed t true } → MakesMove given new (get_or recs t held) after → GoesOn old new (slice_set recs t after)
+pub goes_on_ready : (p : Program) (old given new : Ledger) (recs : List Record) (t : ℕ) (held after : Record) → p ≡ old.program → AreInLine old recs
+    → IsReady old t → given ≡ record old { handed = slice_set old.handed t true } → MakesMove given new (get_or recs t held) after
+    → GoesOn old new (slice_set recs t after)
 goes_on_ready p old given new recs t held after same line ready handed made =
     let own = line_here p old recs t held same line ready.1.exists in
     let may : MayMove p (final p old.history) t = subst (MayMove p (final p old.history)) own.mine (ready_may p old t (get_or recs t held) same own ready) in
@@ -153,15 +152,3 @@ goes_on_ready p old given new recs t held after same line ready handed made =
     (slice_get-set_same old.handed t true (slice_get_within old.handed t false ready.0))
     (here_is old recs t held line ready.1.exists) (subst (λ (q : Program). MayMove q (final q old.history) t) same may)
     (subst (λ (l : Ledger). MakesMove l new (get_or recs t held) after) handed made)
-
--- what is looked at again after a move
-pub told_one : (again mid new : List TaskNo) (task : TaskNo) (notices : List ReqNo) (told : ℕ) (d : ReqNo) → told < length notices
-    → mid ≡ again ++ task ∷ [] → new ≡ mid ++ (get_or notices told d).task ∷ [] → new ≡ again ++ told_tasks task (slice_get notices told)
-told_one again mid new task notices told d within is_mid is_new =
-    let req : ReqNo = get_or notices told d in
-    is_new ∙ ap (λ (z : List TaskNo). z ++ req.task ∷ []) is_mid ∙ append_assoc again (task ∷ []) (req.task ∷ [])
-    ∙ ap (λ (o : Option ReqNo). again ++ told_tasks task o) (sym (slice_get-get_or notices told d within))
-
-pub told_none : (again new : List TaskNo) (task : TaskNo) (notices : List ReqNo) (told : ℕ) → length notices ≤ told → new ≡ again ++ task ∷ []
-    → new ≡ again ++ told_tasks task (slice_get notices told)
-told_none again new task notices told past is_new = is_new ∙ ap (λ (o : Option ReqNo). again ++ told_tasks task o) (sym (slice_get_past notices told past))

@@ -1,7 +1,5 @@
 -- How the plain run keeps the records of the tasks. No public clause cites this module.
-use Rattle.std.specs.Prelude.{◌≡◌, ℕ, ◌+◌, ◌<◌, ◌≤◌, Bool, true, false, List, [], ◌∷◌, length, slice_get, Option, Some, None, ⊤}
-use Rattle.rt_base.specs.declared.data.TaskNo.{TaskNo}
-use Rattle.rt_base.specs.declared.data.ReqNo.{ReqNo}
+use Rattle.std.specs.Prelude.{◌≡◌, ℕ, ◌+◌, ◌*◌, ◌<◌, ◌≤◌, Bool, true, false, List, [], length, slice_get, Some, ⊤}
 use Rattle.rt_base.specs.declared.data.Phase.{Phase}
 use Rattle.rt_base.specs.declared.data.Phase.TheVariants as phase
 use Rattle.rt_base.specs.declared.data.TaskDef.{TaskDef}
@@ -57,14 +55,18 @@ AreFresh program records = (t : ℕ) (held : Record) → slice_get records t ≡
 abbrev pub left : Ledger → ℕ
 left book = all_left book.program.tasks.items (phases_of (final book.program book.history).tasks)
 
--- the records are those of all tasks after one move more
+-- at most how many turns a run has left: a move may bring a notice, and a turn takes a notice or makes a move
+abbrev pub turns_left : Ledger → ℕ
+turns_left book = 2 * left book + length (final book.program book.history).notices
+
+-- the records are those of all tasks after one move more, or one notice less
 pub record GoesOn (old new : Ledger) (records : List Record) : Type 0 where
   pub program : new.program ≡ old.program
   pub workers : new.workers ≡ old.workers
   pub in_line : AreInLine new records
-  pub fewer : left new + 1 ≤ left old
+  pub fewer : turns_left new + 1 ≤ turns_left old
 
--- one move more, or none where no task may move
+-- one step more, or none where no task may move
 abbrev pub EndsTurn : Ledger → Ledger → List Record → Bool → Type 0
 EndsTurn old new records true = GoesOn old new records
 EndsTurn old new records false = (new ≡ old) × IsQuiet old.program (final old.program old.history)
@@ -74,8 +76,3 @@ pub record IsRunning (program : Program) (book : Ledger) (records : List Record)
   pub of_program : book.program ≡ program
   pub alone : book.workers ≡ 1
   pub in_line : AreInLine book records
-
--- a task that moved, and the task of the notice that its move added
-abbrev pub told_tasks : TaskNo → Option ReqNo → List TaskNo
-told_tasks task None = task ∷ []
-told_tasks task (Some req) = task ∷ req.task ∷ []

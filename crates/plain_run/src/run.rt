@@ -1,27 +1,27 @@
 //! The plain run of a program: one thread, no workers, one move after another.
 
-ghost use Rattle.std.specs.Prelude.{◌≡◌, ◌≢◌, ◌<◌, ◌++◌, length, slice_get, IfOk, OnOk, IfSome, IfNone, ℕ};
+ghost use Rattle.std.specs.Prelude.{◌≡◌, ◌≢◌, ◌≤◌, [], false, length, IfOk, IfSome, IfNone, ℕ};
 ghost use Rattle.rt_base.specs.declared.data.Phase.TheVariants as phase;
 ghost use Rattle.rt_base.specs.WellFormed.{WellFormed};
 ghost use Rattle.rt_base.specs.MayMove.{MayMove};
 ghost use Rattle.task_local.specs.Standing.{def, moved_on};
 ghost use Rattle.task_machine.specs.Legal.{final, phases_of, IsLegal, IsQuiet};
 ghost use Rattle.core_book.specs.Ledger.{MakesMove, IsReady};
-ghost use Rattle.plain_run.specs.Plain.{IsPlain};
-ghost use Rattle.plain_run.specs.Turns.{IsInLine, AreInLine, AreFresh, EndsTurn, told_tasks};
+ghost use Rattle.plain_run.specs.Turns.{IsInLine, AreInLine, AreFresh, EndsTurn};
 
 use core_book::{Book, BookEnd};
-use rt_base::{Program, ReqNo, TaskNo};
+use rt_base::{Program, TaskNo};
 use std::alloc::{AllocError, Global};
 use task_local::{At, TaskRec};
 
-/// Runs the program on one thread over a book, until no task may move. Takes memory for all records first, and then for the cells of each send
-/// and for a list of tasks to look at again, with at most one place for each task and one for each completion that was noticed.
+/// Runs the program on one thread over a book, until no task may move and no notice stands; notices are taken as the only worker's. Takes memory for
+/// all records first, and then for the cells of each send and for a list of tasks to look at again, with at most one place for each task and one
+/// for each completion that was noticed.
 pub fn run_plainly(alloc: Global, prog: &Program) -> Result<BookEnd, AllocError>
     requires well_formed { WellFormed prog.now }
-    requires plain { IsPlain prog.now }
     ensures legal { IfOk result (λ end. IsLegal prog.now 1 end.history.entries.items end.history.statuses.items) }
     ensures quiet { IfOk result (λ end. IsQuiet prog.now (final prog.now end.history.entries.items)) }
+    ensures told { IfOk result (λ end. (final prog.now end.history.entries.items).notices ≡ []) }
     ensures cells { IfOk result (λ end. end.cells.items ≡ (final prog.now end.history.entries.items).memory) }
     ensures phases { IfOk result (λ end. end.phases.items ≡ phases_of (final prog.now end.history.entries.items).tasks) }
 {
@@ -45,7 +45,7 @@ fn fresh_records(alloc: Global, prog: &Program) -> Result<Vec<TaskRec>, AllocErr
     Ok(recs)
 }
 
-// Makes one move, if a task may move. Answers whether one did. Tasks that are ready start first.
+// Takes a notice where one stands, and makes one move else, if a task may move. Answers whether it did either.
 fn turn(
     alloc: Global,
     prog: &Program,
@@ -54,7 +54,30 @@ fn turn(
     again: &mut Vec<TaskNo>,
 ) -> Result<bool, AllocError>
     requires well_formed { WellFormed prog.now }
-    requires plain { IsPlain prog.now }
+    requires same { prog.now ≡ book.old.program }
+    requires working { 1 ≤ book.old.workers }
+    requires in_line { AreInLine book.old recs.old }
+    ensures turn { IfOk result (λ moved. EndsTurn book.old book.new recs.new moved) }
+    ensures told { IfOk result (λ moved. moved ≡ false → (final prog.now book.old.history).notices ≡ []) }
+{
+    if book.has_notice() {
+        let req = book.poll(0);
+        again.push(req.task)?;
+        Ok(true)
+    } else {
+        move_on(alloc, prog, book, recs, again)
+    }
+}
+
+// Makes one move, if a task may move. Answers whether one did. Tasks that are ready start first.
+fn move_on(
+    alloc: Global,
+    prog: &Program,
+    book: &mut Book,
+    recs: &mut [TaskRec],
+    again: &mut Vec<TaskNo>,
+) -> Result<bool, AllocError>
+    requires well_formed { WellFormed prog.now }
     requires same { prog.now ≡ book.old.program }
     requires in_line { AreInLine book.old recs.old }
     ensures { IfOk result (λ moved. EndsTurn book.old book.new recs.new moved) }
@@ -78,7 +101,6 @@ fn go_on(
     again: &mut Vec<TaskNo>,
 ) -> Result<bool, AllocError>
     requires well_formed { WellFormed prog.now }
-    requires plain { IsPlain prog.now }
     requires same { prog.now ≡ book.old.program }
     requires in_line { AreInLine book.old recs.old }
     requires none_ready { (t : ℕ) → ¬ IsReady book.old t }
@@ -86,9 +108,8 @@ fn go_on(
 {
     match next_task(prog, book, again) {
         Some(task) => {
-            let told = book.notices().len();
             move_one(alloc, prog, book, &mut recs[task.0 as usize])?;
-            look_again(again, task, book.notices(), told)?;
+            again.push(task)?;
             Ok(true)
         }
         None => Ok(false),
@@ -130,22 +151,6 @@ fn first_able(prog: &Program, book: &Book) -> Option<TaskNo>
     None
 }
 
-// After a move of a task, it is looked at again, and so is the task of the notice that the move added to those told before.
-fn look_again(
-    again: &mut Vec<TaskNo>,
-    task: TaskNo,
-    notices: &[ReqNo],
-    told: usize,
-) -> Result<(), AllocError>
-    ensures { OnOk result (again.new.items ≡ again.old.items ++ told_tasks task (slice_get notices.now told)) }
-{
-    again.push(task)?;
-    if told < notices.len() {
-        again.push(notices[told].task)?;
-    }
-    Ok(())
-}
-
 // Makes the next move of a task that was started, after its local operations.
 fn move_one(
     alloc: Global,
@@ -154,7 +159,6 @@ fn move_one(
     rec: &mut TaskRec,
 ) -> Result<(), AllocError>
     requires well_formed { WellFormed prog.now }
-    requires plain { IsPlain prog.now }
     requires same { prog.now ≡ book.old.program }
     requires in_line { IsInLine prog.now (final prog.now book.old.history) book.old.handed rec.old.task rec.old }
     requires started { rec.old.phase ≢ phase.Waiting }

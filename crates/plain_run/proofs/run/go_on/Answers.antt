@@ -31,8 +31,8 @@ move_one-requires-clause-enabled c =
     (task_exists p old t c.requires.same c.in-Some.ensures.some) in
     own_may p (final p old.history) old.handed t (get_or c.args.recs.now t c.index-recs-task.result) own c.in-Some.ensures.some
 
-pub returns-in_ok-look_again-in-Some : goal.returns-in_ok-look_again-in-Some
-returns-in_ok-look_again-in-Some c =
+pub returns-in_ok-push-in-Some : goal.returns-in_ok-push-in-Some
+returns-in_ok-push-in-Some c =
     goes_on_started c.args.prog.now c.args.book.now c.move_one.new.book c.args.recs.now c.in-Some.task.0 c.index-recs-task.result c.move_one.new.rec
     c.requires.same c.requires.in_line
     c.in-Some.ensures.some c.requires.none_ready c.in_ok-move_one-in-Some.ensures

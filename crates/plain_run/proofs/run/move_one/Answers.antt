@@ -11,7 +11,7 @@ pub unreachable-requires : goal.unreachable-requires
 unreachable-requires c =
     let p = c.args.prog.now in
     let mid = c.run_local.new.self in
-    let b = is_before p (final p c.args.book.now.history) c.args.book.now.handed c.args.rec.now.task c.args.rec.now mid c.requires.plain c.requires.in_line
+    let b = is_before p (final p c.args.book.now.history) c.args.book.now.handed c.args.rec.now.task c.args.rec.now mid c.requires.in_line
     c.requires.started c.requires.enabled c.run_local.ensures in
     not_local (def mid) mid.phase b.able (sym c.at.ensures.at ∙ c.in-Local.is)
 
@@ -19,7 +19,7 @@ pub unreachable-requires-in-Fresh : goal.unreachable-requires-in-Fresh
 unreachable-requires-in-Fresh c =
     let p = c.args.prog.now in
     let mid = c.run_local.new.self in
-    let b = is_before p (final p c.args.book.now.history) c.args.book.now.handed c.args.rec.now.task c.args.rec.now mid c.requires.plain c.requires.in_line
+    let b = is_before p (final p c.args.book.now.history) c.args.book.now.handed c.args.rec.now.task c.args.rec.now mid c.requires.in_line
     c.requires.started c.requires.enabled c.run_local.ensures in
     not_fresh (def mid) mid.phase b.able b.started (sym c.at.ensures.at ∙ c.in-Fresh.is)
 
@@ -27,29 +27,22 @@ pub call-requires-clause-stands : goal.call-requires-clause-stands
 call-requires-clause-stands c =
     let p = c.args.prog.now in
     let mid = c.run_local.new.self in
-    (is_before p (final p c.args.book.now.history) c.args.book.now.handed c.args.rec.now.task c.args.rec.now mid c.requires.plain c.requires.in_line
+    (is_before p (final p c.args.book.now.history) c.args.book.now.handed c.args.rec.now.task c.args.rec.now mid c.requires.in_line
     c.requires.started c.requires.enabled c.run_local.ensures).stands
 
 pub call-requires-clause-before : goal.call-requires-clause-before
 call-requires-clause-before c =
     let p = c.args.prog.now in
     let mid = c.run_local.new.self in
-    let b = is_before p (final p c.args.book.now.history) c.args.book.now.handed c.args.rec.now.task c.args.rec.now mid c.requires.plain c.requires.in_line
+    let b = is_before p (final p c.args.book.now.history) c.args.book.now.handed c.args.rec.now.task c.args.rec.now mid c.requires.in_line
     c.requires.started c.requires.enabled c.run_local.ensures in
     at_call (def mid) mid.phase c.in-Call.field-0 b.able (sym c.at.ensures.at ∙ c.in-Call.is)
-
-pub call-requires-clause-unbinding : goal.call-requires-clause-unbinding
-call-requires-clause-unbinding c =
-    let p = c.args.prog.now in
-    let mid = c.run_local.new.self in
-    (is_before p (final p c.args.book.now.history) c.args.book.now.handed c.args.rec.now.task c.args.rec.now mid c.requires.plain c.requires.in_line
-    c.requires.started c.requires.enabled c.run_local.ensures).unbinding
 
 pub leave-requires-clause-within : goal.leave-requires-clause-within
 leave-requires-clause-within c =
     let p = c.args.prog.now in
     let mid = c.run_local.new.self in
-    let b = is_before p (final p c.args.book.now.history) c.args.book.now.handed c.args.rec.now.task c.args.rec.now mid c.requires.plain c.requires.in_line
+    let b = is_before p (final p c.args.book.now.history) c.args.book.now.handed c.args.rec.now.task c.args.rec.now mid c.requires.in_line
     c.requires.started c.requires.enabled c.run_local.ensures in
     in_operation (def mid) mid.phase c.in-In.field-0 b.able (sym c.at.ensures.at ∙ c.in-In.is)
 
@@ -57,14 +50,14 @@ pub ret-requires-clause-stands : goal.ret-requires-clause-stands
 ret-requires-clause-stands c =
     let p = c.args.prog.now in
     let mid = c.run_local.new.self in
-    (is_before p (final p c.args.book.now.history) c.args.book.now.handed c.args.rec.now.task c.args.rec.now mid c.requires.plain c.requires.in_line
+    (is_before p (final p c.args.book.now.history) c.args.book.now.handed c.args.rec.now.task c.args.rec.now mid c.requires.in_line
     c.requires.started c.requires.enabled c.run_local.ensures).stands
 
 pub ret-requires-clause-ended : goal.ret-requires-clause-ended
 ret-requires-clause-ended c =
     let p = c.args.prog.now in
     let mid = c.run_local.new.self in
-    let b = is_before p (final p c.args.book.now.history) c.args.book.now.handed c.args.rec.now.task c.args.rec.now mid c.requires.plain c.requires.in_line
+    let b = is_before p (final p c.args.book.now.history) c.args.book.now.handed c.args.rec.now.task c.args.rec.now mid c.requires.in_line
     c.requires.started c.requires.enabled c.run_local.ensures in
     has_ended (def mid) mid.phase b.able (sym c.at.ensures.at ∙ c.in-Ended.is)
 
