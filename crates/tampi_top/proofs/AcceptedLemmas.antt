@@ -18,18 +18,10 @@ spelled_by text stmts whole tree is = subst (IsTree text) (sym is) tree
 
 found_by : (asked : Command) (text : List ℕ) (whole : Block) (result : Result Program Unaccepted) → IsTree text (written whole) → Nested 64 Top whole
     → IsFoundOf whole asked result → IsFound asked text result
-found_by asked text whole (Ok program) spelled nested found = record {
-  unrolls = record { whole = whole; spelled = spelled; nested = nested; unrolled = found.0 };
-  plain = found.1;
-}
+found_by asked text whole (Ok program) spelled nested found = record { whole = whole; spelled = spelled; nested = nested; unrolled = found }
 found_by asked text whole (Err (unaccepted.Fault number kind)) spelled nested found =
     inr (record { whole = whole; spelled = spelled; nested = nested; unrolled = found })
 found_by asked text whole (Err (unaccepted.Limit which)) spelled nested found = record { whole = whole; spelled = spelled; nested = nested; unrolled = found }
-found_by asked text whole (Err unaccepted.Ahead) spelled nested found = record {
-  said = found.0;
-  unrolls = record { whole = whole; spelled = spelled; nested = nested; unrolled = found.1 };
-  ahead = found.2;
-}
 found_by asked text whole (Err unaccepted.Memory) spelled nested found = tt
 
 -- what was found of the tree is found of the text

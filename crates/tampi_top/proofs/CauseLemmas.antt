@@ -12,7 +12,6 @@ use Rattle.task_tree.specs.Blocks.{Block, written}
 use Rattle.task_tree.specs.Laws.{OneTextInBlocks}
 use Rattle.task_unroll.specs.declared.refusal.ExpandRefusal.{ExpandRefusal}
 use Rattle.task_unroll.specs.declared.refusal.ExpandRefusal.TheVariants as unrolling
-use Rattle.plain_run.specs.Plain.{IsPlain}
 use Rattle.tampi_top.specs.declared.words.Command.{Command}
 use Rattle.tampi_top.specs.declared.ending.Verdict.{Verdict}
 use Rattle.tampi_top.specs.declared.ending.Refusal.{Refusal}
@@ -21,7 +20,7 @@ use Rattle.tampi_top.specs.declared.ending.Ending.{Ending}
 use Rattle.tampi_top.specs.declared.ending.Ending.TheVariants as ending
 use Rattle.tampi_top.specs.Words.{command}
 use Rattle.tampi_top.specs.Input.{IsReadWhole, IsTooLong}
-use Rattle.tampi_top.specs.Accepted.{said_by, Unrolls, IsProgramText, IsTextAhead, IsFaultText, IsLimitText}
+use Rattle.tampi_top.specs.Accepted.{said_by, Unrolls, IsProgramText, IsFaultText, IsLimitText}
 use Rattle.tampi_top.specs.Due.{Call, IsRun, IsText, IsRefusedText, IsDue}
 use Rattle.tampi_top.specs.Laws.{IsGiven}
 
@@ -65,15 +64,11 @@ run_or_refused law blocks asked text said refusal.Words run refused = refused
 run_or_refused law blocks asked text said refusal.ReadFault run refused = refused
 run_or_refused law blocks asked text said refusal.TooLong run refused = refused
 run_or_refused law blocks asked text said (refusal.Fault number kind) run (inl fault) =
-    unrolled_and_fault law asked text (Ok said) number kind run.unrolls fault
+    unrolled_and_fault law asked text (Ok said) number kind run fault
 run_or_refused law blocks asked text said (refusal.Fault number kind) run (inr met) =
-    let e = one_unrolled law blocks asked text (Ok said) (Err (unrolling.Fault number kind)) run.unrolls met in cc
+    let e = one_unrolled law blocks asked text (Ok said) (Err (unrolling.Fault number kind)) run met in cc
 run_or_refused law blocks asked text said (refusal.Limit which) run met =
-    let e = one_unrolled law blocks asked text (Ok said) (Err (unrolling.Limit which)) run.unrolls met in cc
-run_or_refused law blocks asked text said refusal.NotBuilt run ahead =
-    let e = one_unrolled law blocks asked text (Ok said) (Ok ahead.said) run.unrolls ahead.unrolls in
-    let same : said ≡ ahead.said = cc in
-    ahead.ahead (subst IsPlain same run.plain)
+    let e = one_unrolled law blocks asked text (Ok said) (Err (unrolling.Limit which)) run met in cc
 
 -- two faults of a text are one
 one_text_fault : OneOutcome → OneTextInBlocks → (asked : Command) (text : List ℕ) (number line : ℕ) (kind other : FaultKind)
@@ -108,28 +103,16 @@ one_refusal law blocks asked text (refusal.Fault number kind) refusal.TooLong he
 one_refusal law blocks asked text (refusal.Limit which) refusal.Words here there = absurd there
 one_refusal law blocks asked text (refusal.Limit which) refusal.ReadFault here there = absurd there
 one_refusal law blocks asked text (refusal.Limit which) refusal.TooLong here there = absurd there
-one_refusal law blocks asked text refusal.NotBuilt refusal.Words here there = absurd there
-one_refusal law blocks asked text refusal.NotBuilt refusal.ReadFault here there = absurd there
-one_refusal law blocks asked text refusal.NotBuilt refusal.TooLong here there = absurd there
 one_refusal law blocks asked text (refusal.Fault number kind) (refusal.Fault line other) here there =
     one_text_fault law blocks asked text number line kind other here there
 one_refusal law blocks asked text (refusal.Fault number kind) (refusal.Limit which) here there =
     absurd (let e = fault_and law blocks asked text number kind (Err (unrolling.Limit which)) here there in cc)
-one_refusal law blocks asked text (refusal.Fault number kind) refusal.NotBuilt here there =
-    absurd (let e = fault_and law blocks asked text number kind (Ok there.said) here there.unrolls in cc)
 one_refusal law blocks asked text (refusal.Limit which) (refusal.Fault number kind) here there =
     absurd (let e = fault_and law blocks asked text number kind (Err (unrolling.Limit which)) there here in cc)
 one_refusal law blocks asked text (refusal.Limit which) (refusal.Limit other) here there =
     let e = one_unrolled law blocks asked text (Err (unrolling.Limit which)) (Err (unrolling.Limit other)) here there in
     let same : which ≡ other = cc in
     cc
-one_refusal law blocks asked text (refusal.Limit which) refusal.NotBuilt here there =
-    absurd (let e = one_unrolled law blocks asked text (Err (unrolling.Limit which)) (Ok there.said) here there.unrolls in cc)
-one_refusal law blocks asked text refusal.NotBuilt (refusal.Fault number kind) here there =
-    absurd (let e = fault_and law blocks asked text number kind (Ok here.said) there here.unrolls in cc)
-one_refusal law blocks asked text refusal.NotBuilt (refusal.Limit which) here there =
-    absurd (let e = one_unrolled law blocks asked text (Ok here.said) (Err (unrolling.Limit which)) here.unrolls there in cc)
-one_refusal law blocks asked text refusal.NotBuilt refusal.NotBuilt here there = refl
 
 -- a text of few bytes has no front of many
 no_long_front : (left : Option (List ℕ)) (text front : List ℕ) → length text ≤ 1048576 → length front ≡ 1048577 → Consumes (Some text) left front → ⊥
@@ -187,9 +170,6 @@ programs_are_run law blocks call (ending.Refused (refusal.Fault number kind)) en
 programs_are_run law blocks call (ending.Refused (refusal.Limit which)) entries statuses written due asked text program given said =
     absurd (run_or_refused law blocks asked text program (refusal.Limit which) said
     (of_given call asked text (λ one input. IsRefusedText one input (refusal.Limit which)) given due.0))
-programs_are_run law blocks call (ending.Refused refusal.NotBuilt) entries statuses written due asked text program given said =
-    absurd (run_or_refused law blocks asked text program refusal.NotBuilt said
-    (of_given call asked text (λ one input. IsRefusedText one input refusal.NotBuilt) given due.0))
 
 pub texts_are_refused : OneOutcome → OneTextInBlocks
     → (call : Call) (ends : Ending) (entries : List Entry) (statuses : List Status) (written : List ℕ) → IsDue call ends entries statuses written
@@ -208,6 +188,3 @@ texts_are_refused law blocks call (ending.Refused (refusal.Fault number kind)) e
 texts_are_refused law blocks call (ending.Refused (refusal.Limit which)) entries statuses written due asked text why given refused =
     ap (λ (one : Refusal). ending.Refused one) (one_refusal law blocks asked text (refusal.Limit which) why
     (of_given call asked text (λ one input. IsRefusedText one input (refusal.Limit which)) given due.0) refused)
-texts_are_refused law blocks call (ending.Refused refusal.NotBuilt) entries statuses written due asked text why given refused =
-    ap (λ (one : Refusal). ending.Refused one) (one_refusal law blocks asked text refusal.NotBuilt why
-    (of_given call asked text (λ one input. IsRefusedText one input refusal.NotBuilt) given due.0) refused)

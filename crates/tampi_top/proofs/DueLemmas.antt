@@ -19,8 +19,6 @@ decided_by call asked text (due.Refused (refusal.Fault number kind)) is_asked wh
     record { asked = asked; is_asked = is_asked; input = text; whole = whole; short = short; holds = of_text }
 decided_by call asked text (due.Refused (refusal.Limit which)) is_asked whole short of_text =
     record { asked = asked; is_asked = is_asked; input = text; whole = whole; short = short; holds = of_text }
-decided_by call asked text (due.Refused refusal.NotBuilt) is_asked whole short of_text =
-    record { asked = asked; is_asked = is_asked; input = text; whole = whole; short = short; holds = of_text }
 decided_by call asked text (due.Ran run) is_asked whole short of_text = record {
   asked = asked;
   is_asked = is_asked;

@@ -8,7 +8,6 @@ use Rattle.task_parse.specs.Trees.{IsTree, IsFirstFault}
 use Rattle.task_unroll.specs.declared.refusal.ExpandRefusal.{ExpandRefusal}
 use Rattle.task_unroll.specs.declared.refusal.ExpandRefusal.TheVariants as unrolling
 use Rattle.task_unroll.specs.Ranks.{program}
-use Rattle.plain_run.specs.Plain.{IsPlain}
 use Rattle.tampi_top.specs.declared.words.Command.{Command}
 
 -- what unrolling gives of a text in blocks, for the command's ranks and eager limit
@@ -22,16 +21,9 @@ pub record Unrolls (asked : Command) (text : List ℕ) (outcome : Result Program
   pub nested : Nested 64 Top whole
   pub unrolled : said_by whole asked ≡ outcome
 
--- the text says this program, and meets no fault and no limit; and the program is one that is run today
-pub record IsProgramText (asked : Command) (text : List ℕ) (said : Program) : Type 0 where
-  pub unrolls : Unrolls asked text (Ok said)
-  pub plain : IsPlain said
-
--- the text says a program that cannot be run yet
-pub record IsTextAhead (asked : Command) (text : List ℕ) : Type 0 where
-  pub said : Program
-  pub unrolls : Unrolls asked text (Ok said)
-  pub ahead : ¬ IsPlain said
+-- the text says this program, and meets no fault and no limit
+abbrev pub IsProgramText : Command → List ℕ → Program → Type 0
+IsProgramText asked text said = Unrolls asked text (Ok said)
 
 -- the first fault of the text as it is read, or else the first that unrolling meets, before every limit
 abbrev pub IsFaultText : Command → List ℕ → ℕ → FaultKind → Type 0

@@ -18,7 +18,7 @@ use Rattle.tampi_top.specs.Words.{command}
 use Rattle.tampi_top.specs.Input.{IsReadWhole, IsTooLong, IsFrontTaken}
 use Rattle.tampi_top.specs.Report.{report}
 use Rattle.tampi_top.specs.Ending.{refusal_text}
-use Rattle.tampi_top.specs.Accepted.{IsProgramText, IsTextAhead, IsFaultText, IsLimitText}
+use Rattle.tampi_top.specs.Accepted.{IsProgramText, IsFaultText, IsLimitText}
 
 -- what a call was given: its words, what its source tells of the bytes before and after the call, and the source's counts of faults
 pub record Call : Type 0 where
@@ -64,14 +64,13 @@ pub record IsText (call : Call) (Holds : Command → List ℕ → Type 0) : Type
   pub short : length input ≤ 1048576
   pub holds : Holds asked input
 
--- the text is refused so: it has this first fault, it meets this limit first, or it says a program that cannot be run yet
+-- the text is refused so: it has this first fault, or it meets this limit first
 abbrev pub IsRefusedText : Command → List ℕ → Refusal → Type 0
 IsRefusedText asked text refusal.Words = ⊥
 IsRefusedText asked text refusal.ReadFault = ⊥
 IsRefusedText asked text refusal.TooLong = ⊥
 IsRefusedText asked text (refusal.Fault number kind) = IsFaultText asked text number kind
 IsRefusedText asked text (refusal.Limit which) = IsLimitText asked text which
-IsRefusedText asked text refusal.NotBuilt = IsTextAhead asked text
 
 -- the cause of a refusal: the words give no command, and nothing was read; the source's count of faults rose,
 -- and no more bytes were taken than a text may have; one byte more was taken; the text that was read is refused so
@@ -82,7 +81,6 @@ HasCause call refusal.ReadFault =
 HasCause call refusal.TooLong = (asked : Command) × (command call.words ≡ Some asked) × IsTooLong call.given call.left
 HasCause call (refusal.Fault number kind) = IsText call (λ asked input. IsRefusedText asked input (refusal.Fault number kind))
 HasCause call (refusal.Limit which) = IsText call (λ asked input. IsRefusedText asked input (refusal.Limit which))
-HasCause call refusal.NotBuilt = IsText call (λ asked input. IsRefusedText asked input refusal.NotBuilt)
 
 -- what a call owes that ends so: a run with its report, or one line and no history
 abbrev pub IsDue : Call → Ending → List Entry → List Status → List ℕ → Type 0

@@ -25,7 +25,6 @@ refusal_status refusal.ReadFault = 4
 refusal_status refusal.TooLong = 7
 refusal_status (refusal.Fault number kind) = 3
 refusal_status (refusal.Limit which) = 8
-refusal_status refusal.NotBuilt = 9
 
 -- the status of a call whose whole text was written
 abbrev pub status_of : Ending → ℕ
@@ -93,7 +92,6 @@ refusal_text refusal.ReadFault = codes "read fault\n"
 refusal_text refusal.TooLong = codes "too long\n"
 refusal_text (refusal.Fault number kind) = fault_text number kind
 refusal_text (refusal.Limit which) = limit_text which
-refusal_text refusal.NotBuilt = codes "not built\n"
 
 -- how a run ended whose tasks stand there
 abbrev pub verdict_of : List Phase → Verdict

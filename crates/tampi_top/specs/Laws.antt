@@ -27,7 +27,7 @@ ProgramsAreRun =
     → (asked : Command) (text : List ℕ) (program : Program) → IsGiven call asked text → IsProgramText asked text program
     → (outcome : Verdict) × (ends ≡ ending.Ran outcome) × (call.left ≡ Some [])
 
--- a told text with a fault, a limit that it meets first, or a program that cannot be run yet is refused so
+-- a told text with a fault, or a limit that it meets first, is refused so
 abbrev pub TextsAreRefused : Type 0
 TextsAreRefused =
     (call : Call) (ends : Ending) (entries : List Entry) (statuses : List Status) (written : List ℕ) → IsDue call ends entries statuses written

@@ -3,11 +3,9 @@ ghost use Rattle.std.specs.Prelude.{◌≡◌, ◌≤◌, length, IfOk};
 ghost use Rattle.rt_base.specs.declared.data.Program.{Program};
 ghost use Rattle.rt_base.specs.WellFormed.{WellFormed};
 ghost use Rattle.task_tree.specs.Blocks.{Block, Top, written, Nested};
-ghost use Rattle.plain_run.specs.Plain.{IsPlain};
 ghost use Rattle.tampi_top.specs.Whys.{IsFoundOf, IsFound};
 ghost use Rattle.tampi_top.specs.Settings.{IsInRange};
 
-use crate::plain::is_plain;
 use crate::words::Command;
 use rt_base::{FaultKind, LimitName, Program};
 use std::alloc::Global;
@@ -22,8 +20,6 @@ pub enum Unaccepted {
     Fault { line: u32, kind: FaultKind },
     /// The text meets this limit first.
     Limit { which: LimitName },
-    /// The text says a program that cannot be run yet.
-    Ahead,
     Memory,
 }
 
@@ -34,26 +30,19 @@ fn unrolled(alloc: Global, tree: &Tree, asked: Command) -> Result<Program, Unacc
     ensures well_formed { (whole : Block) → written whole ≡ tree.now.items → Nested 64 Top whole → IfOk result (λ program. WellFormed program) }
 {
     match expand(alloc, tree, asked.ranks, asked.eager) {
-        Ok(program) => {
-            if is_plain(&program) {
-                Ok(program)
-            } else {
-                Err(Unaccepted::Ahead)
-            }
-        }
+        Ok(program) => Ok(program),
         Err(ExpandRefusal::Fault { line, kind }) => Err(Unaccepted::Fault { line, kind }),
         Err(ExpandRefusal::Limit { which }) => Err(Unaccepted::Limit { which }),
         Err(ExpandRefusal::Memory) => Err(Unaccepted::Memory),
     }
 }
 
-/// The program that the text says, for the command's ranks and eager limit, where it can be run.
+/// The program that the text says, for the command's ranks and eager limit.
 pub fn program_of(alloc: Global, text: &[u8], asked: Command) -> Result<Program, Unaccepted>
     requires short { length text.now ≤ 1048576 }
     requires range { IsInRange asked }
     ensures found { IsFound asked text.now result }
     ensures well_formed { IfOk result (λ program. WellFormed program) }
-    ensures plain { IfOk result (λ program. IsPlain program) }
 {
     match parse(alloc, text) {
         Ok(tree) => unrolled(alloc, &tree, asked),

@@ -32,7 +32,6 @@ fn due_of_text(alloc: Global, text: &[u8], asked: Command) -> Due
         },
         Err(Unaccepted::Fault { line, kind }) => Due::Refused(Refusal::Fault { line, kind }),
         Err(Unaccepted::Limit { which }) => Due::Refused(Refusal::Limit { which }),
-        Err(Unaccepted::Ahead) => Due::Refused(Refusal::NotBuilt),
         Err(Unaccepted::Memory) => Due::Memory,
     }
 }

@@ -17,8 +17,6 @@ pub enum Refusal {
     Fault { line: u32, kind: FaultKind },
     /// The text meets this limit first.
     Limit { which: LimitName },
-    /// The text says a program that cannot be run yet.
-    NotBuilt,
 }
 
 /// How a run ended.
@@ -57,6 +55,5 @@ pub fn refusal_status(refusal: Refusal) -> u8
         Refusal::TooLong => 7,
         Refusal::Fault { .. } => 3,
         Refusal::Limit { .. } => 8,
-        Refusal::NotBuilt => 9,
     }
 }

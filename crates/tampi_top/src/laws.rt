@@ -12,8 +12,7 @@ pub fn programs_are_run()
     one_text_in_blocks();
 }
 
-/// A text with a fault or a limit is refused with the one that it meets first, where memory is there and no read fails, and one
-/// whose program cannot be run yet is not run.
+/// A text with a fault or a limit is refused with the one that it meets first, where memory is there and no read fails.
 pub fn texts_are_refused()
     ensures { TextsAreRefused }
 {

@@ -5,7 +5,6 @@ mod accepted;
 mod decided;
 mod ending;
 pub mod laws;
-mod plain;
 mod reading;
 mod refusing;
 mod report;
@@ -16,6 +15,8 @@ mod writing;
 
 pub use top::{Outcome, tampi};
 
+#[cfg(test)]
+mod bind_tests;
 #[cfg(test)]
 mod limit_tests;
 #[cfg(test)]

@@ -102,7 +102,6 @@ pub fn line_of(alloc: Global, refusal: Refusal) -> Result<Vec<u8>, AllocError>
         Refusal::TooLong => put(&mut text, "too long\n")?,
         Refusal::Fault { line, kind } => put_fault(alloc, &mut text, line, kind)?,
         Refusal::Limit { which } => put_limit(alloc, &mut text, which)?,
-        Refusal::NotBuilt => put(&mut text, "not built\n")?,
     }
     Ok(text)
 }

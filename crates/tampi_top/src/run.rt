@@ -1,7 +1,6 @@
 //! A run of a program, and its report.
 ghost use Rattle.std.specs.Prelude.{◌≡◌, IfOk};
 ghost use Rattle.rt_base.specs.WellFormed.{WellFormed};
-ghost use Rattle.plain_run.specs.Plain.{IsPlain};
 ghost use Rattle.tampi_top.specs.Ending.{verdict_of};
 ghost use Rattle.tampi_top.specs.Due.{IsRunOf};
 
@@ -33,7 +32,6 @@ fn verdict_of(phases: &[Phase]) -> Verdict
 /// Runs the program to its end, and makes the report.
 pub fn run_of(alloc: Global, program: &Program) -> Result<Run, AllocError>
     requires well_formed { WellFormed program.now }
-    requires plain { IsPlain program.now }
     ensures { IfOk result (λ run. IsRunOf program.now run.verdict run.history.entries.items run.history.statuses.items run.report.items) }
 {
     let end = run_plainly(alloc, program)?;

@@ -29,7 +29,7 @@ pub(crate) fn words_of(alloc: Global, text: &str) -> Result<Vec<String>, AllocEr
 }
 
 // What a call in memory comes to.
-fn outcome_of<R: Threads + Wait + Sync>(
+pub(crate) fn outcome_of<R: Threads + Wait + Sync>(
     rt: &R,
     alloc: Global,
     words: &str,

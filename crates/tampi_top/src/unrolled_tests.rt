@@ -1,4 +1,4 @@
-//! What unrolling finds, through the top call: values, ranks, the first fault with its line, and what cannot be run yet.
+//! What unrolling finds, through the top call: values, ranks, and the first fault or limit with its line.
 use crate::tampi;
 use crate::tests::is_told;
 use rt_base::{MemSink, MemSource, OpenGate};
@@ -230,15 +230,8 @@ fn the_first_fault_is_told(rt: HostRuntime) -> Result<(), Fail> {
 }
 
 #[test]
-fn what_cannot_be_run_yet_is_not_built(rt: HostRuntime) -> Result<(), Fail> {
+fn a_limit_is_told(rt: HostRuntime) -> Result<(), Fail> {
     let alloc = rt.alloc();
-    let rows: [&[u8]; 2] = [
-        b"array u, 1\ntask\nin u[0..1]\ndo\nisend q, u[0..1], 0, 0\niwaitall q\nend\n",
-        b"array u, 1\ntask\nout u[0..1]\ndo\nirecv q, u[0..1], null, 0\niwait q\nend\n",
-    ];
-    for text in rows {
-        assert!(rt; is_told(&rt, alloc, text, 9, b"not built\n")?, "{text:?}");
-    }
     let limit = b"array u, 16777217\n";
     assert!(rt;
         is_told(&rt, alloc, limit, 8, b"limit cells 16777216\n")?,
