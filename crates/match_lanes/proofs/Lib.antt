@@ -1,0 +1,9 @@
+pub mod Places
+pub mod Linked
+pub mod Walks
+pub mod Finding
+pub mod Selecting
+pub mod Wished
+pub mod Mailed
+pub mod Taken
+pub mod Mailboxes
