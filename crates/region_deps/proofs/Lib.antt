@@ -10,3 +10,4 @@ pub mod Precedence
 pub mod Starts
 pub mod Releases
 pub mod Beginnings
+pub mod Sent

@@ -3,3 +3,4 @@ mod ReadLemmas
 mod WriteLemmas
 pub mod SameRequest
 pub mod Postings
+pub mod Sent

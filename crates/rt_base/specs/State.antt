@@ -10,7 +10,8 @@ use Rattle.rt_base.specs.Precedes.{LetGo}
 use Rattle.rt_base.specs.Exchange.{Exchange, silent}
 
 -- a task: where it stands, its own copy of the cells that it declares, in the order of array and cell,
--- the operations by number that bound requests to it, and the requests bound to it (TAMPI, TAMPI_Iwait)
+-- the operations by number that bound requests to it, and the requests bound to it (TAMPI, TAMPI_Iwait; that only incomplete
+-- ones are bound is this project's own)
 pub record Task : Type 0 where
   pub phase : Phase
   pub copy : List ℤ

@@ -11,3 +11,4 @@ pub mod Fresh
 pub mod Saved
 pub mod Rows
 pub mod Releases
+pub mod Sent
