@@ -1,5 +1,6 @@
 -- A request waits in one place, or takes part in one match, and only once it is posted.
-use Rattle.std.proofs.Common.{◌≡◌, ℕ, ◌+◌, ◌≤◌, ◌<◌, Bool, true, false, ◌||◌, cond, [], length, get_or, slice_get, count_by, option_to_list, Option, Some, None, option_map, sym, refl, ap, ◌∙◌, arith}
+use Rattle.std.proofs.Common.{◌≡◌, ℕ, ◌+◌, ◌≤◌, ◌<◌, Bool, true, false, ◌||◌, cond, [], length, get_or, slice_get, count_by, option_to_list, Option, Some}
+use Rattle.std.proofs.Common.{None, option_map, sym, refl, ap, ◌∙◌, arith}
 use Rattle.std.proofs.lemmas.List.Sums.{sum_by_push, sum_by-set, sum_by-remove, sum_by-append}
 use Rattle.std.proofs.lemmas.List.Quantifiers.{position-Some}
 use Rattle.std.proofs.lemmas.Option.{slice_get-get_or}
@@ -9,7 +10,8 @@ use Rattle.rt_base.specs.declared.data.ReqNo.{ReqNo}
 use Rattle.rt_base.specs.declared.data.Peer.TheVariants as peer
 use Rattle.rt_base.specs.declared.data.TagSel.TheVariants as tag
 use Rattle.rt_base.specs.Matching.{Message, Receive, same_request, is_match}
-use Rattle.rt_base.specs.Exchange.{Exchange, Mailbox, Match, Posting, Sent, Asked, Nowhere, no_mail, mailbox_of, send, sent_to, receive, asked_for, element, place_of_receive, place_of_message, match_made, exchange_after}
+use Rattle.rt_base.specs.Exchange.{Exchange, Mailbox, Match, Posting, Sent, Asked, Nowhere, no_mail, mailbox_of, send, sent_to, receive, asked_for, element}
+use Rattle.rt_base.specs.Exchange.{place_of_receive, place_of_message, match_made, exchange_after}
 use Rattle.rt_base.specs.Completion.{is_party, is_posted}
 use Rattle.match_engine.specs.Queues.{IsPlaced}
 use Rattle.match_engine.specs.Kept.{in_mailbox, occurrences, IsAccounted}

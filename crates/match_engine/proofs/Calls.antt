@@ -1,5 +1,6 @@
 -- The call of a request of the program says all that its operation does.
-use Rattle.std.proofs.Common.{◌≡◌, ℕ, zero, suc, ◌<◌, Bool, true, false, cond, List, [], ◌∷◌, ℤ, filter, slice_get, Option, Some, None, option_map, option_and_then, IsSome, sym, refl, ap, ◌∙◌, subst}
+use Rattle.std.proofs.Common.{◌≡◌, ℕ, zero, suc, ◌<◌, Bool, true, false, cond, List, [], ◌∷◌, ℤ, filter, slice_get, Option, Some, None, option_map}
+use Rattle.std.proofs.Common.{option_and_then, IsSome, sym, refl, ap, ◌∙◌, subst}
 use Rattle.std.proofs.lemmas.Option.{none-some, same_Some, slice_get_within, get_or_from_slice_get}
 use Rattle.std.proofs.lemmas.Bool.{false≢true}
 use Rattle.std.proofs.lemmas.List.Elements.{All-filter, All-get_or}
@@ -95,7 +96,7 @@ receive_posts how.Issend req rank whom selected comm cells h = absurd (false≢t
 receive_posts how.Irecv req rank whom selected comm cells h = refl
 
 -- the operation of a request is one of the program
-of_task : (program : Program) → WellFormed program → (req : ReqNo) (call : Call) (from : IsCallOf program req call) → IsTask program from.task
+pub of_task : (program : Program) → WellFormed program → (req : ReqNo) (call : Call) (from : IsCallOf program req call) → IsTask program from.task
 of_task program well req call from =
     subst (IsTask program) (get_or_from_slice_get program.tasks.items req.task.0 from.task from.task from.task_is)
     (All-get_or (IsTask program) program.tasks.items req.task.0 from.task (slice_get_within program.tasks.items req.task.0 from.task from.task_is) well.tasks)

@@ -1,6 +1,8 @@
 -- Counts of slots.
-use Rattle.std.proofs.Common.{◌≡◌, ℕ, ◌+◌, ◌≤◌, ◌<◌, Bool, List, [], ◌∷◌, length, map, take, get_or, set, sum_by, count_by, slice_get, Option, Some, sym, refl, ap, ◌∙◌, arith}
-use Rattle.std.proofs.lemmas.List.{map-set, get_or-map, length-map}
+use Rattle.std.proofs.Common.{◌≡◌, ℕ, ◌+◌, ◌≤◌, ◌<◌, Bool, List, [], ◌∷◌, length, map, take, get_or, set, sum_by, count_by, slice_get, Option, Some, sym}
+use Rattle.std.proofs.Common.{refl, ap, ◌∙◌, arith}
+use Rattle.std.proofs.lemmas.List.{map-set, get_or-map, length-map, take_all}
+use Rattle.std.proofs.lemmas.Simd.{map-map}
 use Rattle.std.proofs.lemmas.Option.{option_and_then_some, slice_get_within}
 use Rattle.std.proofs.lemmas.List.Sums.{sum_by-cons, sum_by_more_le_part, count_by-le-length}
 use Rattle.match_engine.specs.declared.slots.Slot.{Slot}
@@ -12,6 +14,11 @@ use Rattle.match_engine.specs.Slots.{marked, marked_by, slot_at}
 pub sum_by-map : {X Y : Type 0} (f : Y → ℕ) (v : X → Y) (xs : List X) → sum_by f (map v xs) ≡ sum_by (λ x. f (v x)) xs
 sum_by-map f v [] = refl
 sum_by-map f v (x ∷ xs) = sum_by-cons f (v x) (map v xs) ∙ ap (λ (n : ℕ). f (v x) + n) (sum_by-map f v xs) ∙ sym (sum_by-cons (λ y. f (v y)) x xs)
+
+-- what a loop over all rows made of them
+pub made_of_rows : {R X Y : Type 0} (f : X → Y) (v : R → X) (rows : List R) (i : ℕ) (made : List Y) → length rows ≤ i
+    → made ≡ map (λ row. f (v row)) (take i rows) → made ≡ map f (map v rows)
+made_of_rows f v rows i made past is = is ∙ ap (map (λ row. f (v row))) (take_all i rows past) ∙ sym (map-map f v rows)
 
 -- what is counted in the rows so far and in the next is no more than all rows have
 pub counts_within : {R : Type 0} (test : Slot → Bool) (v : R → List Slot) (rows : List R) (i : ℕ) (d : R) → i < length rows

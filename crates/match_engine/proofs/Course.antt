@@ -1,5 +1,6 @@
 -- What becomes of each request when one is posted.
-use Rattle.std.proofs.Common.{◌≡◌, ℕ, ◌+◌, ◌≤◌, Bool, true, false, ◌||◌, cond, List, [], ◌∷◌, ◌++◌, length, position, slice_get, sum_by, count_by, option_to_list, Option, Some, None, option_map, IfSome, refl, ap, ◌∙◌, subst, arith}
+use Rattle.std.proofs.Common.{◌≡◌, ℕ, ◌+◌, ◌≤◌, Bool, true, false, ◌||◌, cond, List, [], ◌∷◌, ◌++◌, length, position, slice_get, sum_by, count_by}
+use Rattle.std.proofs.Common.{option_to_list, Option, Some, None, option_map, IfSome, refl, ap, ◌∙◌, subst, arith}
 use Rattle.std.proofs.lemmas.List.Sums.{get_or-le-sum_by, prefix_len-le-length}
 use Rattle.std.proofs.lemmas.List.{append-nil, length_push}
 use Rattle.std.proofs.lemmas.Grind.{common_steps}
@@ -9,7 +10,8 @@ use Rattle.std.proofs.lemmas.Option.{none-some, same_Some, slice_get_within, get
 use Rattle.std.proofs.lemmas.Bool.{or_from, or_left, or_right}
 use Rattle.rt_base.specs.declared.data.ReqNo.{ReqNo}
 use Rattle.rt_base.specs.Matching.{Message, Receive, same_request}
-use Rattle.rt_base.specs.Exchange.{Exchange, Mailbox, Match, Posting, Sent, Asked, Nowhere, no_mail, mailbox_of, element, place_of_receive, place_of_message, match_made, exchange_after, other_of, partner_of}
+use Rattle.rt_base.specs.Exchange.{Exchange, Mailbox, Match, Posting, Sent, Asked, Nowhere, no_mail, mailbox_of, element, place_of_receive, place_of_message}
+use Rattle.rt_base.specs.Exchange.{match_made, exchange_after, other_of, partner_of}
 use Rattle.rt_base.specs.Completion.{is_party, is_posted}
 use Rattle.match_engine.specs.declared.slots.Progress.{Progress}
 use Rattle.match_engine.specs.declared.slots.Progress.TheVariants.{Unposted, Waits, Matched}

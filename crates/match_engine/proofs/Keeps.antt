@@ -1,5 +1,6 @@
 -- The engine keeps its parts together.
-use Rattle.std.proofs.Common.{◌≡◌, ℕ, ◌+◌, ◌≤◌, Bool, true, false, ◌&&◌, cond, List, ℤ, length, position, Option, Some, None, option_map, IfSome, IsSome, is_some, sym, refl, ap, ◌∙◌, subst, arith, ◌⊎◌, inl, inr}
+use Rattle.std.proofs.Common.{◌≡◌, ℕ, ◌+◌, ◌≤◌, Bool, true, false, not, ◌&&◌, cond, List, ℤ, length, position, Option, Some, None, option_map, IfSome, IsSome}
+use Rattle.std.proofs.Common.{is_some, sym, refl, ap, ◌∙◌, subst, arith, ◌⊎◌, inl, inr}
 use Rattle.std.proofs.lemmas.List.{length-map, length-set}
 use Rattle.std.proofs.lemmas.Option.{none-some, same_Some}
 use Rattle.std.proofs.lemmas.Bool.{cases_Bool, or_cases, false≢true, both_ways, cond-true, cond-false, false_from_ne_true}
@@ -13,14 +14,19 @@ use Rattle.rt_base.specs.declared.data.TagSel.TheVariants as tag
 use Rattle.rt_base.specs.declared.data.Program.{Program}
 use Rattle.rt_base.specs.Operations.{is_receive}
 use Rattle.rt_base.specs.Matching.{same_request}
-use Rattle.rt_base.specs.Exchange.{Exchange, Match, Posting, Sent, Asked, Nowhere, sent_by, asked_by, posting_by, send, receive, mailbox_of, match_made, mailboxes_after, exchange_after, other_of, partner_of}
+use Rattle.rt_base.specs.Exchange.{Exchange, Match, Posting, Sent, Asked, Nowhere, sent_by, asked_by, posting_by, send, receive, mailbox_of, match_made}
+use Rattle.rt_base.specs.Exchange.{mailboxes_after, exchange_after, other_of, partner_of}
 use Rattle.rt_base.specs.Completion.{is_party, is_posted}
 use Rattle.match_engine.specs.declared.slots.Call.{Call}
 use Rattle.match_engine.specs.declared.slots.Slot.{Slot}
+use Rattle.match_engine.specs.declared.slots.Side.{Side}
+use Rattle.match_engine.specs.declared.slots.Side.TheVariants.{Messages, Receives}
 use Rattle.match_engine.specs.declared.slots.Progress.{Progress}
 use Rattle.match_engine.specs.declared.slots.Progress.TheVariants.{Unposted, Waits, Matched}
-use Rattle.match_engine.specs.Queues.{Shelf, Traffic, exchange_of, taken_at, IsPlaced, HasSpent}
-use Rattle.match_engine.specs.Slots.{slot_at, marked, marked_by, settled, slots_that, is_open, is_due, enters, addresses, listens, is_unposted, call_of, slot_of, progress_of, progress_by}
+use Rattle.match_lanes.specs.Shelves.{Shelf}
+use Rattle.match_engine.specs.Queues.{Traffic, exchange_of, taken_at, IsPlaced, HasSpent}
+use Rattle.match_engine.specs.Slots.{slot_at, marked, marked_by, settled, slots_that, is_open, is_due, enters, addresses, listens, is_unposted, call_of}
+use Rattle.match_engine.specs.Slots.{slot_of, progress_of, progress_by}
 use Rattle.match_engine.specs.Kept.{IsAccounted, KeepsExchange}
 use Rattle.rt_base.proofs.SameRequest.{one_request}
 use Rattle.rt_base.proofs.Postings.{IsOf, posted_after}
@@ -212,40 +218,75 @@ settled_slots program eager old slots req slot posting found (Some made) is = λ
 
 -- a posting takes a place where its call enters
 sent_taken : (req : ReqNo) (rank at : ℕ) (whom : Peer) (selected : TagSel) (comm : ℕ) (cells : List ℤ)
-    → taken_at (sent_by req rank whom selected comm cells) at ≤ once (addresses whom at)
+    → taken_at (sent_by req rank whom selected comm cells) Messages at ≤ once (addresses whom at)
 sent_taken req rank at (peer.Rank to) (tag.Tag chosen) comm cells = omega arith
 sent_taken req rank at (peer.Rank to) tag.Any comm cells = omega arith
 sent_taken req rank at peer.Any selected comm cells = omega arith
 sent_taken req rank at peer.Null selected comm cells = omega arith
 
--- whether a posting of this kind takes a place in the queues of the rank
-abbrev enters_by : How → Peer → ℕ → ℕ → Bool
-enters_by kind whom own rank = cond (is_receive kind) (listens whom own rank) (addresses whom rank)
+sent_apart : (req : ReqNo) (rank at : ℕ) (whom : Peer) (selected : TagSel) (comm : ℕ) (cells : List ℤ)
+    → taken_at (sent_by req rank whom selected comm cells) Receives at ≡ 0
+sent_apart req rank at (peer.Rank to) (tag.Tag chosen) comm cells = refl
+sent_apart req rank at (peer.Rank to) tag.Any comm cells = refl
+sent_apart req rank at peer.Any selected comm cells = refl
+sent_apart req rank at peer.Null selected comm cells = refl
 
 asked_taken : (req : ReqNo) (rank at : ℕ) (whom : Peer) (selected : TagSel) (comm : ℕ)
-    → taken_at (asked_by req rank whom selected comm) at ≤ once (listens whom rank at)
+    → taken_at (asked_by req rank whom selected comm) Receives at ≤ once (listens whom rank at)
 asked_taken req rank at (peer.Rank from) selected comm = omega arith
 asked_taken req rank at peer.Any selected comm = omega arith
 asked_taken req rank at peer.Null selected comm = omega arith
 
-kind_taken : (kind : How) (req : ReqNo) (rank at : ℕ) (whom : Peer) (selected : TagSel) (comm : ℕ) (cells : List ℤ)
-    → taken_at (posting_by kind req rank whom selected comm cells) at ≤ once (enters_by kind whom rank at)
-kind_taken how.Send req rank at whom selected comm cells = sent_taken req rank at whom selected comm cells
-kind_taken how.Ssend req rank at whom selected comm cells = sent_taken req rank at whom selected comm cells
-kind_taken how.Recv req rank at whom selected comm cells = asked_taken req rank at whom selected comm
-kind_taken how.Isend req rank at whom selected comm cells = sent_taken req rank at whom selected comm cells
-kind_taken how.Issend req rank at whom selected comm cells = sent_taken req rank at whom selected comm cells
-kind_taken how.Irecv req rank at whom selected comm cells = asked_taken req rank at whom selected comm
+asked_apart : (req : ReqNo) (rank at : ℕ) (whom : Peer) (selected : TagSel) (comm : ℕ)
+    → taken_at (asked_by req rank whom selected comm) Messages at ≡ 0
+asked_apart req rank at (peer.Rank from) selected comm = refl
+asked_apart req rank at peer.Any selected comm = refl
+asked_apart req rank at peer.Null selected comm = refl
 
-pub call_taken : (req : ReqNo) (cells : List ℤ) (call : Call) (rank : ℕ) → taken_at (posted_as req cells call) rank ≤ once (enters call rank)
-call_taken req cells call rank = kind_taken call.how req call.rank rank call.peer call.tag call.comm cells
+-- whether a posting of this kind takes a place in this queue of the rank
+abbrev enters_by : How → Side → Peer → ℕ → ℕ → Bool
+enters_by kind Messages whom own rank = not (is_receive kind) && addresses whom rank
+enters_by kind Receives whom own rank = is_receive kind && listens whom own rank
+
+send_taken : (side : Side) (req : ReqNo) (rank at : ℕ) (whom : Peer) (selected : TagSel) (comm : ℕ) (cells : List ℤ)
+    → taken_at (sent_by req rank whom selected comm cells) side at ≤ once (enters_by how.Send side whom rank at)
+send_taken Messages req rank at whom selected comm cells = sent_taken req rank at whom selected comm cells
+send_taken Receives req rank at whom selected comm cells = omega (arith, sent_apart req rank at whom selected comm cells)
+
+receive_taken : (side : Side) (req : ReqNo) (rank at : ℕ) (whom : Peer) (selected : TagSel) (comm : ℕ)
+    → taken_at (asked_by req rank whom selected comm) side at ≤ once (enters_by how.Recv side whom rank at)
+receive_taken Messages req rank at whom selected comm = omega (arith, asked_apart req rank at whom selected comm)
+receive_taken Receives req rank at whom selected comm = asked_taken req rank at whom selected comm
+
+kind_taken : (kind : How) (side : Side) (req : ReqNo) (rank at : ℕ) (whom : Peer) (selected : TagSel) (comm : ℕ) (cells : List ℤ)
+    → taken_at (posting_by kind req rank whom selected comm cells) side at ≤ once (enters_by kind side whom rank at)
+kind_taken how.Send Messages req rank at whom selected comm cells = send_taken Messages req rank at whom selected comm cells
+kind_taken how.Send Receives req rank at whom selected comm cells = send_taken Receives req rank at whom selected comm cells
+kind_taken how.Ssend Messages req rank at whom selected comm cells = send_taken Messages req rank at whom selected comm cells
+kind_taken how.Ssend Receives req rank at whom selected comm cells = send_taken Receives req rank at whom selected comm cells
+kind_taken how.Recv side req rank at whom selected comm cells = receive_taken side req rank at whom selected comm
+kind_taken how.Isend Messages req rank at whom selected comm cells = send_taken Messages req rank at whom selected comm cells
+kind_taken how.Isend Receives req rank at whom selected comm cells = send_taken Receives req rank at whom selected comm cells
+kind_taken how.Issend Messages req rank at whom selected comm cells = send_taken Messages req rank at whom selected comm cells
+kind_taken how.Issend Receives req rank at whom selected comm cells = send_taken Receives req rank at whom selected comm cells
+kind_taken how.Irecv Messages req rank at whom selected comm cells = receive_taken Messages req rank at whom selected comm
+kind_taken how.Irecv Receives req rank at whom selected comm cells = receive_taken Receives req rank at whom selected comm
+
+enters_is : (side : Side) (call : Call) (rank : ℕ) → enters_by call.how side call.peer call.rank rank ≡ enters side call rank
+enters_is Messages call rank = refl
+enters_is Receives call rank = refl
+
+pub call_taken : (req : ReqNo) (cells : List ℤ) (call : Call) (side : Side) (rank : ℕ)
+    → taken_at (posted_as req cells call) side rank ≤ once (enters side call rank)
+call_taken req cells call side rank =
+    omega (arith, kind_taken call.how side req call.rank rank call.peer call.tag call.comm cells, ap once (enters_is side call rank))
 
 -- a request that isn't posted is open, and due where its call enters
 pub open_one : (slot : Slot) → slot.progress ≡ Unposted → is_open slot ≡ true
 open_one slot is = ap is_unposted is
 
-pub due_one : (slot : Slot) (rank : ℕ) → slot.progress ≡ Unposted → is_due rank slot ≡ enters slot.call rank
-due_one slot rank is = ap (λ (p : Progress). is_unposted p && enters slot.call rank) is
+pub due_one : (slot : Slot) (side : Side) (rank : ℕ) → slot.progress ≡ Unposted → is_due side rank slot ≡ enters side slot.call rank
+due_one slot side rank is = ap (λ (p : Progress). is_unposted p && enters side slot.call rank) is
 
 -- what is posted was, or is the request itself
 known_after : (program : Program) (exchange : Exchange) (req q : ReqNo) (posting : Posting) → IsSome (call_of program req)
@@ -285,12 +326,12 @@ kept_after program eager old new slots req slot cells found is spent =
           (subst (λ (e : Exchange). is_posted e q ≡ true) is posted);
       room_to_post = omega (arith, fewer_open, ap once (open_one slot unposted), kept.room_to_post, spent.posted);
       room_to_match = omega (arith, fewer_open, ap once (open_one slot unposted), kept.room_to_match, spent.matches);
-      room_to_wait = λ rank below. omega (
+      room_to_wait = λ side rank below. omega (
         arith,
-        fewer_settled (is_due rank) slots req slot partner place found.at (λ s. refl) (λ s. refl),
-        ap once (due_one slot rank unposted),
-        call_taken req cells slot.call rank,
-        kept.room_to_wait rank below,
-        spent.queues rank,
+        fewer_settled (is_due side rank) slots req slot partner place found.at (λ s. refl) (λ s. refl),
+        ap once (due_one slot side rank unposted),
+        call_taken req cells slot.call side rank,
+        kept.room_to_wait side rank below,
+        spent.queues side rank,
       );
     }

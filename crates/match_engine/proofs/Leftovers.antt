@@ -1,12 +1,14 @@
 -- In a run of postings nothing that matches is left.
-use Rattle.std.proofs.Common.{◌≡◌, ℕ, ◌≤◌, ◌<◌, List, [], ◌∷◌, ◌++◌, length, get_or, set, remove, Option, Some, None, sym, refl, ap, ◌∙◌, subst, arith, ◌⊎◌, inl, inr}
+use Rattle.std.proofs.Common.{◌≡◌, ℕ, ◌≤◌, ◌<◌, List, [], ◌∷◌, ◌++◌, length, get_or, set, remove, Option, Some, None, sym, refl, ap, ◌∙◌, subst, arith, ◌⊎◌}
+use Rattle.std.proofs.Common.{inl, inr}
 use Rattle.std.proofs.Math.ListN.{get_or-eq_default}
 use Rattle.std.proofs.lemmas.List.{get_or-set_same, length-set}
 use Rattle.std.proofs.lemmas.List.Quantifiers.{position-Some}
 use Rattle.std.proofs.lemmas.Bool.{cases_lt, cases_eq}
 use Rattle.rt_base.specs.declared.data.ReqNo.{ReqNo}
 use Rattle.rt_base.specs.Matching.{Message, Receive, is_match}
-use Rattle.rt_base.specs.Exchange.{Exchange, Mailbox, Posting, Sent, Asked, Nowhere, no_mail, silent, mailbox_of, send, sent_to, receive, asked_for, place_of_receive, place_of_message, exchange_after}
+use Rattle.rt_base.specs.Exchange.{Exchange, Mailbox, Posting, Sent, Asked, Nowhere, no_mail, silent, mailbox_of, send, sent_to, receive, asked_for}
+use Rattle.rt_base.specs.Exchange.{place_of_receive, place_of_message, exchange_after}
 use Rattle.match_engine.specs.Laws.{Posted, after, NothingMatchesIsLeft}
 use Rattle.match_engine.proofs.Accounts.{some_message, some_receive}
 use Rattle.match_engine.proofs.Orders.{Apart, nothing_apart, apart_waits, apart_takes, apart_swapped}

@@ -6,6 +6,8 @@ mod Course
 mod Calls
 mod Keeps
 mod Replies
+mod Known
+mod Ways
 mod Orders
 pub mod Standings
 mod Overtaking
@@ -13,3 +15,4 @@ mod Leftovers
 pub mod Waiting
 pub mod Matched
 pub mod Partners
+pub mod Sent

@@ -1,5 +1,6 @@
 -- What a request has, once another or the same got further.
-use Rattle.std.proofs.Common.{◌≡◌, ℕ, ◌+◌, ◌≤◌, ◌<◌, Bool, true, false, cond, List, [], length, get_or, set, count_by, slice_get, Option, Some, None, option_and_then, IsSome, is_some, sym, refl, ap, ◌∙◌, arith, ◌⊎◌, inl, inr, ◌==◌, ◌&&◌}
+use Rattle.std.proofs.Common.{◌≡◌, ℕ, ◌+◌, ◌≤◌, ◌<◌, Bool, true, false, cond, List, [], length, get_or, set, count_by, slice_get, Option, Some, None}
+use Rattle.std.proofs.Common.{option_and_then, IsSome, is_some, sym, refl, ap, ◌∙◌, arith, ◌⊎◌, inl, inr, ◌==◌, ◌&&◌}
 use Rattle.std.proofs.lemmas.List.{get_or-set_same, get_or-set_other, length-set}
 use Rattle.std.proofs.lemmas.List.Sums.{sum_by-set}
 use Rattle.std.proofs.lemmas.Bool.{cases_lt, cases_eq, cases_Bool, eq-eqb, ne_eqb, eqb-true, cond-true, cond-false, false≢true}

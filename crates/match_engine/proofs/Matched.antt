@@ -1,5 +1,6 @@
 -- Each match of a run was made by one of its postings, and nothing was overtaken.
-use Rattle.std.proofs.Common.{◌≡◌, ℕ, zero, suc, ◌+◌, ◌≤◌, ◌<◌, Bool, true, false, not, cond, List, [], ◌∷◌, ◌++◌, length, map, take, get_or, slice_get, Contains, Option, Some, None, option_to_list, sym, refl, ap, ◌∙◌, subst, arith, ◌⊎◌, inl, inr}
+use Rattle.std.proofs.Common.{◌≡◌, ℕ, zero, suc, ◌+◌, ◌≤◌, ◌<◌, Bool, true, false, not, cond, List, [], ◌∷◌, ◌++◌, length, map, take, get_or, slice_get}
+use Rattle.std.proofs.Common.{Contains, Option, Some, None, option_to_list, sym, refl, ap, ◌∙◌, subst, arith, ◌⊎◌, inl, inr}
 use Rattle.std.specs.List.{list_any}
 use Rattle.std.proofs.Math.Seq.{take-append_seam}
 use Rattle.std.proofs.lemmas.List.{append_assoc, append-nil, length_push, length-replicate, map-append}
@@ -10,7 +11,8 @@ use Rattle.std.proofs.lemmas.Option.{none-some, same_Some, slice_get_within, sli
 use Rattle.std.proofs.lemmas.Bool.{or_parts, cases_lt}
 use Rattle.rt_base.specs.declared.data.ReqNo.{ReqNo}
 use Rattle.rt_base.specs.Matching.{Message, Receive, is_match, same_request}
-use Rattle.rt_base.specs.Exchange.{Exchange, Mailbox, Match, Posting, Sent, Asked, Nowhere, no_mail, silent, mailbox_of, place_of_receive, place_of_message, match_made, exchange_after}
+use Rattle.rt_base.specs.Exchange.{Exchange, Mailbox, Match, Posting, Sent, Asked, Nowhere, no_mail, silent, mailbox_of, place_of_receive, place_of_message}
+use Rattle.rt_base.specs.Exchange.{match_made, exchange_after}
 use Rattle.match_engine.specs.Laws.{Posted, IsOwn, after, AreNew, sends, asks, IsAt, IsEarlier, Makes, posted_with}
 use Rattle.match_engine.specs.Order.{MatchesArePosted, MessagesKeepOrder, ReceivesKeepOrder}
 use Rattle.rt_base.proofs.SameRequest.{same_request-self}

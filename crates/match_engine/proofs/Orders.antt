@@ -1,5 +1,6 @@
 -- Lists in the order of posting.
-use Rattle.std.proofs.Common.{◌≡◌, ℕ, ◌+◌, ◌-◌, ◌≤◌, ◌<◌, Bool, false, not, cond, eqb, List, [], ◌∷◌, ◌++◌, length, get_or, remove, position, slice_get, All, AllPairs, Contains, Some, None, sym, refl, ap, ◌∙◌, subst, arith, ◌⊎◌, inl, inr}
+use Rattle.std.proofs.Common.{◌≡◌, ℕ, ◌+◌, ◌-◌, ◌≤◌, ◌<◌, Bool, false, not, cond, eqb, List, [], ◌∷◌, ◌++◌, length, get_or, remove, position, slice_get, All}
+use Rattle.std.proofs.Common.{AllPairs, Contains, Some, None, sym, refl, ap, ◌∙◌, subst, arith, ◌⊎◌, inl, inr}
 use Rattle.std.specs.List.{list_any, position_or_len}
 use Rattle.std.proofs.lemmas.List.{length_push, get_or_default}
 use Rattle.std.proofs.lemmas.List.Edits.{get_or-remove_below, get_or-remove_above, length-remove}

@@ -5,7 +5,8 @@ use Rattle.std.proofs.lemmas.List.Elements.{All-contains}
 use Rattle.std.proofs.lemmas.Bool.{both_ways}
 use Rattle.rt_base.specs.declared.data.ReqNo.{ReqNo}
 use Rattle.rt_base.specs.Matching.{Message, Receive, is_match}
-use Rattle.rt_base.specs.Exchange.{Exchange, Mailbox, Match, Posting, Sent, Asked, Nowhere, no_mail, silent, mailbox_of, place_of_receive, place_of_message, match_made, exchange_after}
+use Rattle.rt_base.specs.Exchange.{Exchange, Mailbox, Match, Posting, Sent, Asked, Nowhere, no_mail, silent, mailbox_of, place_of_receive, place_of_message}
+use Rattle.rt_base.specs.Exchange.{match_made, exchange_after}
 use Rattle.rt_base.specs.Completion.{is_posted}
 use Rattle.match_engine.specs.Laws.{Posted, IsOwn, after, AreNew, IsEarlier, IsAt, MessagesDoNotOvertake, ReceivesDoNotOvertake}
 use Rattle.match_engine.proofs.Accounts.{match}

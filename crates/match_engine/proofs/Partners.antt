@@ -1,5 +1,6 @@
 -- A partner that a posting finds was posted before, and is complete after.
-use Rattle.std.proofs.Common.{◌≡◌, ℕ, zero, suc, Bool, true, ◌&&◌, ◌||◌, cond, List, [], ◌∷◌, ℤ, map, slice_get, option_to_list, Contains, Option, Some, None, option_map, is_some, sym, refl, ap, ◌∙◌, subst}
+use Rattle.std.proofs.Common.{◌≡◌, ℕ, zero, suc, Bool, true, ◌&&◌, ◌||◌, cond, List, [], ◌∷◌, ℤ, map, slice_get, option_to_list, Contains, Option, Some, None}
+use Rattle.std.proofs.Common.{option_map, is_some, sym, refl, ap, ◌∙◌, subst}
 use Rattle.std.specs.List.{list_any}
 use Rattle.std.proofs.lemmas.Bool.{or_left, or_right, and_from}
 use Rattle.std.proofs.lemmas.Option.{none-some, same_Some}
@@ -7,7 +8,8 @@ use Rattle.rt_base.specs.declared.data.ReqNo.{ReqNo}
 use Rattle.rt_base.specs.declared.data.Program.{Program}
 use Rattle.rt_base.specs.Operations.{posting_of}
 use Rattle.rt_base.specs.Matching.{Message, Receive, same_request}
-use Rattle.rt_base.specs.Exchange.{Exchange, Match, Posting, Sent, Asked, Nowhere, silent, what_is_posted, match_made, exchange_after, other_of, post, partner, mailbox_of, place_of_receive, place_of_message}
+use Rattle.rt_base.specs.Exchange.{Exchange, Match, Posting, Sent, Asked, Nowhere, silent, what_is_posted, match_made, exchange_after, other_of, post}
+use Rattle.rt_base.specs.Exchange.{partner, mailbox_of, place_of_receive, place_of_message}
 use Rattle.rt_base.specs.Completion.{is_party, match_with, is_posted, is_complete, completes_alone}
 use Rattle.rt_base.proofs.SameRequest.{same_request-self}
 use Rattle.rt_base.proofs.Postings.{IsOf, what_is_of, posted_after, matched_after, party_of_made}

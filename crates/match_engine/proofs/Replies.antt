@@ -1,5 +1,7 @@
 -- What the engine's calls answer.
-use Rattle.std.proofs.Common.{◌≡◌, ℕ, ◌≤◌, ◌<◌, ◌^◌, Bool, true, false, ◌&&◌, ◌||◌, cond, List, [], ◌∷◌, ℤ, length, filter, position, find, slice_get, sum_by, option_to_list, Option, Some, None, option_map, option_and_then, IfSome, IsSome, is_some, sym, refl, ap, ◌∙◌, subst, arith, ◌⊎◌, inl, inr, zero, suc, ◌==◌}
+use Rattle.std.proofs.Common.{◌≡◌, ℕ, ◌≤◌, ◌<◌, ◌^◌, Bool, true, false, ◌&&◌, ◌||◌, cond, List, [], ◌∷◌, ℤ, length, filter, position, find, slice_get, sum_by}
+use Rattle.std.proofs.Common.{option_to_list, Option, Some, None, option_map, option_and_then, IfSome, IsSome, is_some, sym, refl, ap, ◌∙◌, subst, arith, ◌⊎◌}
+use Rattle.std.proofs.Common.{inl, inr, zero, suc, ◌==◌}
 use Rattle.std.specs.List.{position_or_len}
 use Rattle.std.proofs.lemmas.List.{length-map, length-replicate}
 use Rattle.std.proofs.lemmas.List.Folds.{find_at, sum_by-replicate}
@@ -11,16 +13,21 @@ use Rattle.rt_base.specs.declared.data.TaskDef.{TaskDef}
 use Rattle.rt_base.specs.declared.data.Program.{Program}
 use Rattle.rt_base.specs.Operations.{posting_of, postings, is_posting}
 use Rattle.rt_base.specs.Matching.{same_request}
-use Rattle.rt_base.specs.Exchange.{Exchange, Match, Posting, Sent, Asked, Nowhere, no_mail, silent, element, match_made, exchange_after, other_of, partner_of, what_is_posted, post, partner, sent_by, asked_by}
+use Rattle.rt_base.specs.Exchange.{Exchange, Match, Posting, Sent, Asked, Nowhere, no_mail, silent, element, match_made, exchange_after, other_of, partner_of}
+use Rattle.rt_base.specs.Exchange.{what_is_posted, post, partner, sent_by, asked_by}
 use Rattle.rt_base.specs.Completion.{is_party, is_posted, match_with, is_complete, completes_alone, completes_at_once, request_status, request_cells}
 use Rattle.rt_base.specs.WellFormed.{WellFormed}
 use Rattle.match_engine.specs.declared.slots.Call.{Call}
 use Rattle.match_engine.specs.declared.slots.Slot.{Slot}
+use Rattle.match_engine.specs.declared.slots.Side.{Side}
+use Rattle.match_engine.specs.declared.slots.Side.TheVariants.{Messages, Receives}
 use Rattle.match_engine.specs.declared.slots.Progress.TheVariants.{Unposted, Waits}
 use Rattle.match_engine.specs.Switch.{Switch}
 use Rattle.match_engine.specs.Requests.{IsSend, IsReceive, HasSpan}
-use Rattle.match_engine.specs.Queues.{Shelf, Traffic, exchange_of, room_at, taken_at, IsPlaced, HasRoomFor, HasSpent}
-use Rattle.match_engine.specs.Slots.{slot_at, settled, slots_that, is_open, is_due, call_by, call_of, slot_of, progress_of, progress_by, fresh_slot, fresh_row, fresh_slots, match_of, complete_by, call_status, call_cells}
+use Rattle.match_lanes.specs.Shelves.{Shelf}
+use Rattle.match_engine.specs.Queues.{Traffic, exchange_of, room_at, taken_at, IsPlaced, HasRoomFor, HasSpent}
+use Rattle.match_engine.specs.Slots.{slot_at, settled, slots_that, is_open, is_due, call_by, call_of, slot_of, progress_of, progress_by, fresh_slot}
+use Rattle.match_engine.specs.Slots.{fresh_row, fresh_slots, match_of, complete_by, call_status, call_cells}
 use Rattle.match_engine.specs.Kept.{IsAccounted, KeepsExchange, in_mailbox}
 use Rattle.match_engine.proofs.Counts.{sum_by-map}
 use Rattle.rt_base.proofs.SameRequest.{same_request-self}
@@ -28,7 +35,8 @@ use Rattle.rt_base.proofs.Postings.{IsOf, posted_after, matched_after, party_of_
 use Rattle.match_engine.proofs.Accounts.{once}
 use Rattle.match_engine.proofs.Course.{IsPartner, partner_before}
 use Rattle.match_engine.proofs.Marks.{slots_that-marked, got_to}
-use Rattle.match_engine.proofs.Calls.{posted_as, call_placed, call_alone, span_is_call, what_is_call, status_is_call, cells_are_call, send_posts, receive_posts, is_send, is_recv, send_has_call, recv_has_call}
+use Rattle.match_engine.proofs.Calls.{posted_as, call_placed, call_alone, span_is_call, what_is_call, status_is_call, cells_are_call, send_posts}
+use Rattle.match_engine.proofs.Calls.{receive_posts, is_send, is_recv, send_has_call, recv_has_call}
 use Rattle.match_engine.proofs.Keeps.{IsPosted, IsFresh, slot_says, has_slot, posted_has_slot, open_since, open_one, due_one, call_taken, kept_after}
 
 -- the first item that passes is the one at the first place that passes
@@ -97,24 +105,29 @@ some_slot : (test : Slot → Bool) (slots : List (List Slot)) (req : ReqNo) (slo
 some_slot test slots req slot at fails = omega (arith, slots_that-marked test slots req slot Waits at, ap once fails)
 
 -- a posting takes no place at a rank that doesn't exist
-nothing_past : (ranks rank : ℕ) (posting : Posting) → IsPlaced ranks posting → ranks ≤ rank → taken_at posting rank ≡ 0
-nothing_past ranks rank (Sent to message) placed past = cond-false (to == rank) 1 0 (ne_eqb to rank (λ same. absurd (omega (arith, same, placed, past))))
-nothing_past ranks rank (Asked at wish) placed past = cond-false (at == rank) 1 0 (ne_eqb at rank (λ same. absurd (omega (arith, same, placed, past))))
-nothing_past ranks rank Nowhere placed past = refl
+nothing_past : (ranks : ℕ) (side : Side) (rank : ℕ) (posting : Posting) → IsPlaced ranks posting → ranks ≤ rank → taken_at posting side rank ≡ 0
+nothing_past ranks Messages rank (Sent to message) placed past =
+    cond-false (to == rank) 1 0 (ne_eqb to rank (λ same. absurd (omega (arith, same, placed, past))))
+nothing_past ranks Receives rank (Sent to message) placed past = refl
+nothing_past ranks Messages rank (Asked at wish) placed past = refl
+nothing_past ranks Receives rank (Asked at wish) placed past =
+    cond-false (at == rank) 1 0 (ne_eqb at rank (λ same. absurd (omega (arith, same, placed, past))))
+nothing_past ranks side rank Nowhere placed past = refl
 
 room_at_rank : (program : Program) (eager : ℕ) (old : Traffic) (slots : List (List Slot)) (req : ReqNo) (slot : Slot) (cells : List ℤ)
     → KeepsExchange program eager old slots → slot_at slots req ≡ Some slot → slot.progress ≡ Unposted → IsPlaced program.ranks (posted_as req cells slot.call)
-    → (rank : ℕ) → (rank < program.ranks) ⊎ (program.ranks ≤ rank) → taken_at (posted_as req cells slot.call) rank ≤ room_at old rank
-room_at_rank program eager old slots req slot cells kept at unposted placed rank (inl below) =
+    → (side : Side) (rank : ℕ) → (rank < program.ranks) ⊎ (program.ranks ≤ rank)
+    → taken_at (posted_as req cells slot.call) side rank ≤ room_at old side rank
+room_at_rank program eager old slots req slot cells kept at unposted placed side rank (inl below) =
     omega (
       arith,
-      call_taken req cells slot.call rank,
-      ap once (due_one slot rank unposted),
-      some_slot (is_due rank) slots req slot at refl,
-      kept.room_to_wait rank below,
+      call_taken req cells slot.call side rank,
+      ap once (due_one slot side rank unposted),
+      some_slot (is_due side rank) slots req slot at refl,
+      kept.room_to_wait side rank below,
     )
-room_at_rank program eager old slots req slot cells kept at unposted placed rank (inr past) =
-    omega (arith, nothing_past program.ranks rank (posted_as req cells slot.call) placed past)
+room_at_rank program eager old slots req slot cells kept at unposted placed side rank (inr past) =
+    omega (arith, nothing_past program.ranks side rank (posted_as req cells slot.call) placed past)
 
 -- there is room for it
 pub room_for : (program : Program) (eager : ℕ) (old : Traffic) (slots : List (List Slot)) (req : ReqNo) (slot : Slot) (cells : List ℤ) (posting : Posting)
@@ -128,7 +141,8 @@ room_for program eager old slots req slot cells posting found =
     (record {
       posted = omega (arith, one, ap once (open_one slot unposted), found.kept.room_to_post);
       matches = omega (arith, one, ap once (open_one slot unposted), found.kept.room_to_match);
-      queues = λ rank. room_at_rank program eager old slots req slot cells found.kept found.at unposted placed rank (cases_lt rank program.ranks);
+      queues = λ side rank.
+          room_at_rank program eager old slots req slot cells found.kept found.at unposted placed side rank (cases_lt rank program.ranks);
     })
 
 placed_in : (program : Program) (eager : ℕ) (old : Traffic) (slots : List (List Slot)) (req : ReqNo) (slot : Slot) (cells : List ℤ) (posting : Posting)
@@ -391,7 +405,8 @@ fresh_slot_is program req ranks (Some task) =
 pub kept_at_start : (program : Program) (eager : ℕ) (traffic : Traffic) (slots : List (List Slot)) → WellFormed program → eager ≡ program.eager
     → slots ≡ fresh_slots program
     → exchange_of traffic ≡ silent program.ranks → traffic.posted.room ≡ slots_that is_open slots → traffic.matches.room ≡ slots_that is_open slots
-    → ((rank : ℕ) → rank < program.ranks → room_at traffic rank ≡ slots_that (is_due rank) slots) → KeepsExchange program eager traffic slots
+    → ((side : Side) (rank : ℕ) → rank < program.ranks → room_at traffic side rank ≡ slots_that (is_due side rank) slots)
+    → KeepsExchange program eager traffic slots
 kept_at_start program eager traffic slots well limit slots_is is posted matches queues =
     record {
       well = well;
@@ -406,7 +421,7 @@ kept_at_start program eager traffic slots well limit slots_is is posted matches 
       known = λ q yes. absurd (false≢true (ap (λ (e : Exchange). is_posted e q) (sym is) ∙ yes));
       room_to_post = omega (arith, posted);
       room_to_match = omega (arith, matches);
-      room_to_wait = λ rank below. omega (arith, queues rank below);
+      room_to_wait = λ side rank below. omega (arith, queues side rank below);
     }
 
 -- what a send finds, and what a receive finds

@@ -1,5 +1,6 @@
 -- What waits in each mailbox of a run of postings, in the order of posting.
-use Rattle.std.proofs.Common.{◌≡◌, ℕ, ◌<◌, Bool, true, false, List, [], ◌∷◌, ◌++◌, length, map, get_or, set, replicate, remove, slice_get, Contains, Option, Some, None, option_map, option_to_list, sym, refl, ap, ◌∙◌, subst, arith, ◌⊎◌, inl, inr}
+use Rattle.std.proofs.Common.{◌≡◌, ℕ, ◌<◌, Bool, true, false, List, [], ◌∷◌, ◌++◌, length, map, get_or, set, replicate, remove, slice_get, Contains, Option}
+use Rattle.std.proofs.Common.{Some, None, option_map, option_to_list, sym, refl, ap, ◌∙◌, subst, arith, ◌⊎◌, inl, inr}
 use Rattle.std.proofs.Math.ListN.{get_or-eq_default}
 use Rattle.std.proofs.lemmas.List.{get_or-set_same, get_or-set_other, length-set, length-replicate, append_assoc, append-nil, map-append, get_or-replicate}
 use Rattle.std.proofs.lemmas.List.Elements.{Contains-push_cases}
@@ -9,7 +10,8 @@ use Rattle.std.proofs.lemmas.Bool.{cases_lt, cases_eq, false≢true}
 use Rattle.rt_base.specs.declared.data.ReqNo.{ReqNo}
 use Rattle.std.specs.List.{list_any}
 use Rattle.rt_base.specs.Matching.{Message, Receive, is_match, same_request}
-use Rattle.rt_base.specs.Exchange.{Exchange, Mailbox, Match, Posting, Sent, Asked, Nowhere, no_mail, silent, mailbox_of, send, sent_to, receive, asked_for, element, place_of_receive, place_of_message, match_made, mailboxes_after, exchange_after}
+use Rattle.rt_base.specs.Exchange.{Exchange, Mailbox, Match, Posting, Sent, Asked, Nowhere, no_mail, silent, mailbox_of, send, sent_to, receive, asked_for}
+use Rattle.rt_base.specs.Exchange.{element, place_of_receive, place_of_message, match_made, mailboxes_after, exchange_after}
 use Rattle.rt_base.specs.Completion.{is_posted}
 use Rattle.match_engine.specs.Laws.{Posted, IsOwn, after, AreNew, sends, asks}
 use Rattle.match_engine.proofs.Accounts.{some_message, some_receive, match}

@@ -1,14 +1,21 @@
 -- What a posting makes of the queues, the postings and the matches that are kept.
-use Rattle.std.proofs.Common.{◌≡◌, ℕ, ◌+◌, ◌≤◌, ◌<◌, List, [], ◌∷◌, ◌++◌, length, map, get_or, set, Option, Some, None, option_map, option_to_list, sym, refl, ap, ◌∙◌, subst, arith, inl, inr, replicate, zero-add, ◌==◌, if◌then◌else◌}
-use Rattle.std.proofs.lemmas.List.{map-set, get_or-map, get_or-set_same, get_or-set_other, length-map, append-nil, map-append, replicate_more}
+use Rattle.std.proofs.Common.{◌≡◌, ℕ, ◌+◌, ◌≤◌, ◌<◌, List, [], ◌∷◌, ◌++◌, length, map, get_or, set, Option, Some, None, option_map, option_to_list, sym, refl}
+use Rattle.std.proofs.Common.{ap, ◌∙◌, subst, arith, inl, inr, replicate, take, zero-add, ◌==◌, if◌then◌else◌}
+use Rattle.std.proofs.lemmas.List.{map-set, get_or-map, get_or-set_same, get_or-set_other, length-map, append-nil, map-append, replicate_more, take_more}
+use Rattle.std.proofs.Math.Seq.{map-set_same}
 use Rattle.std.proofs.lemmas.List.FromFn.{map-range_with_len_more}
 use Rattle.std.specs.List.{range_with_len}
 use Rattle.std.proofs.lemmas.Bool.{cases_eq, cond-true, eq-eqb}
 use Rattle.rt_base.specs.declared.data.ReqNo.{ReqNo}
 use Rattle.rt_base.specs.Listing.{Listing}
 use Rattle.rt_base.specs.Matching.{Message, Receive}
-use Rattle.rt_base.specs.Exchange.{Mailbox, Match, Exchange, Posting, Sent, Asked, no_mail, send, receive, element, place_of_receive, place_of_message, exchange_after}
-use Rattle.match_engine.specs.Queues.{Shelf, Traffic, exchange_of, room_at, taken_at, HasSpent, HasRoomFor}
+use Rattle.rt_base.specs.Exchange.{Mailbox, Match, Exchange, Posting, Sent, Asked, no_mail, send, receive, element, place_of_receive, place_of_message}
+use Rattle.rt_base.specs.Exchange.{exchange_after}
+use Rattle.match_lanes.specs.declared.selector.Selector.{Selector}
+use Rattle.match_lanes.specs.Shelves.{Shelf}
+use Rattle.match_engine.specs.declared.slots.Side.{Side}
+use Rattle.match_engine.specs.declared.slots.Side.TheVariants.{Messages, Receives}
+use Rattle.match_engine.specs.Queues.{Traffic, exchange_of, keys_of, room_in, room_at, taken_at, HasSpent, HasRoomFor}
 
 abbrev match : Message → Receive → Match
 match message wish = record { message = message; receive = wish }
@@ -88,37 +95,58 @@ changed traffic rank there posted matches = record { shelves = set traffic.shelv
 
 -- the room of a rank after a posting at one
 queues_spent : (rooms : List ℕ) (rank at here there : ℕ) (taken : ℕ → ℕ)
-    → rank < length rooms → get_or rooms rank 0 ≡ here → there + 1 ≡ here → taken rank ≡ 1
+    → rank < length rooms → get_or rooms rank 0 ≡ here → here ≤ there + taken rank
     → get_or rooms at 0 ≤ get_or (set rooms rank there) at 0 + taken at
-queues_spent rooms rank at here there taken within here_is room taken_is =
+queues_spent rooms rank at here there taken within here_is room =
     elim (cases_eq at rank) [
       | inl same ↦
           subst (λ (n : ℕ). get_or rooms n 0 ≤ get_or (set rooms rank there) n 0 + taken n) (sym same)
-          (omega (arith, here_is, room, taken_is, get_or-set_same rooms rank there 0 within))
+          (omega (arith, here_is, room, get_or-set_same rooms rank there 0 within))
       | inr other ↦ omega (arith, get_or-set_other rooms rank at there 0 other)
     ]
 
--- a posting at a rank takes one place in its queues
-pub spent_at : (inside old : Traffic) (rank : ℕ) (here there : Shelf) (posted : Listing ReqNo) (matches : Listing Match) (posting : Posting)
-    → inside ≡ old → rank < length old.shelves → here ≡ get_or inside.shelves rank here → there.room + 1 ≡ here.room
-    → posted.room + 1 ≡ inside.posted.room → inside.matches.room ≤ matches.room + 1 → taken_at posting rank ≡ 1
-    → HasSpent old (changed inside rank there posted matches) posting
-spent_at inside old rank here there posted matches posting same below here_is room posted_room match_room taken =
-    let within : rank < length inside.shelves = subst (λ (t : Traffic). rank < length t.shelves) (sym same) below in
-    let room_of : Shelf → ℕ = λ shelf. shelf.room in
-    subst (λ (t : Traffic). HasSpent t (changed inside rank there posted matches) posting) same
-    (record {
-      posted = omega (arith, posted_room);
-      matches = match_room;
-      queues = λ at. subst (λ (rooms : List ℕ). room_at inside at ≤ get_or rooms at 0 + taken_at posting at) (sym (map-set room_of inside.shelves rank there))
-          (queues_spent (map room_of inside.shelves) rank at here.room there.room (taken_at posting)
-          (subst (λ (n : ℕ). rank < n) (sym (length-map inside.shelves room_of)) within)
-          (get_or-map room_of inside.shelves rank here 0 within ∙ ap room_of (sym here_is)) room taken);
-    })
+-- the selectors that are known at a rank are those of its queues
+pub keys_here : (inside old : Traffic) (rank : ℕ) (here : Shelf) → inside ≡ old → rank < length old.shelves → here ≡ get_or inside.shelves rank here
+    → get_or (keys_of old) rank [] ≡ here.keys
+keys_here inside old rank here same below here_is =
+    let known : Shelf → List Selector = λ shelf. shelf.keys in
+    get_or-map known old.shelves rank here [] below ∙ ap (λ (t : Traffic). known (get_or t.shelves rank here)) (sym same) ∙ ap known (sym here_is)
 
 -- a rank is itself
 pub here_taken : (rank : ℕ) → ◌≡◌ {A = ℕ} (if rank == rank then 1 else 0) 1
 here_taken rank = cond-true (rank == rank) 1 0 (eq-eqb rank rank refl)
+
+-- a message takes one place at most, and a receive likewise
+pub sent_spent : (to : ℕ) (message : Message) (here there : Shelf) → there.message_room + 1 ≡ here.message_room → there.receive_room ≡ here.receive_room
+    → (side : Side) → room_in side here ≤ room_in side there + taken_at (Sent to message) side to
+sent_spent to message here there room others Messages = omega (arith, room, here_taken to)
+sent_spent to message here there room others Receives = omega (arith, others)
+
+pub asked_spent : (at : ℕ) (wish : Receive) (here there : Shelf) → there.receive_room + 1 ≡ here.receive_room → there.message_room ≡ here.message_room
+    → (side : Side) → room_in side here ≤ room_in side there + taken_at (Asked at wish) side at
+asked_spent at wish here there room others Messages = omega (arith, others)
+asked_spent at wish here there room others Receives = omega (arith, room, here_taken at)
+
+-- a posting at a rank takes one place in its queues
+pub spent_at : (inside old : Traffic) (rank : ℕ) (here there : Shelf) (posted : Listing ReqNo) (matches : Listing Match) (posting : Posting)
+    → inside ≡ old → rank < length old.shelves → here ≡ get_or inside.shelves rank here
+    → ((side : Side) → room_in side here ≤ room_in side there + taken_at posting side rank) → there.keys ≡ here.keys
+    → posted.room + 1 ≡ inside.posted.room → inside.matches.room ≤ matches.room + 1
+    → HasSpent old (changed inside rank there posted matches) posting
+spent_at inside old rank here there posted matches posting same below here_is room keys posted_room match_room =
+    let within : rank < length inside.shelves = subst (λ (t : Traffic). rank < length t.shelves) (sym same) below in
+    subst (λ (t : Traffic). HasSpent t (changed inside rank there posted matches) posting) same
+    (record {
+      posted = omega (arith, posted_room);
+      matches = match_room;
+      queues = λ side at.
+          subst (λ (rooms : List ℕ). room_at inside side at ≤ get_or rooms at 0 + taken_at posting side at)
+          (sym (map-set (room_in side) inside.shelves rank there))
+          (queues_spent (map (room_in side) inside.shelves) rank at (room_in side here) (room_in side there) (taken_at posting side)
+          (subst (λ (n : ℕ). rank < n) (sym (length-map inside.shelves (room_in side))) within)
+          (get_or-map (room_in side) inside.shelves rank here 0 within ∙ ap (room_in side) (sym here_is)) (room side));
+      keys = map-set_same (λ (shelf : Shelf). shelf.keys) inside.shelves rank there here (keys ∙ ap (λ (shelf : Shelf). shelf.keys) here_is);
+    })
 
 -- a posting without a match adds none, and one with a match adds it
 pub no_match : (matches : List Match) (made : Option Match) → None ≡ made → matches ≡ matches ++ option_to_list made
@@ -129,28 +157,41 @@ pub one_match : (matches after : List Match) (found : Match) (made : Option Matc
 one_match matches after found made some is = is ∙ ap (λ (o : Option Match). matches ++ option_to_list o) some
 
 -- a posting that has room has it where it goes
-pub room_here : (inside old : Traffic) (rank : ℕ) (here : Shelf) (posting : Posting) → inside ≡ old → rank < length old.shelves
+pub room_here : (inside old : Traffic) (side : Side) (rank : ℕ) (here : Shelf) (posting : Posting) → inside ≡ old → rank < length old.shelves
     → here ≡ get_or inside.shelves rank here
-    → taken_at posting rank ≡ 1 → HasRoomFor old posting → 0 < here.room
-room_here inside old rank here posting same below here_is taken room =
-    let room_of : Shelf → ℕ = λ shelf. shelf.room in
-    let found : get_or (map room_of old.shelves) rank 0 ≡ here.room =
-    get_or-map room_of old.shelves rank here 0 below ∙ ap (λ (t : Traffic). room_of (get_or t.shelves rank here)) (sym same) ∙ ap room_of (sym here_is) in
-    omega (arith, found, taken, room.queues rank)
+    → taken_at posting side rank ≡ 1 → HasRoomFor old posting → 0 < room_in side here
+room_here inside old side rank here posting same below here_is taken room =
+    let found : get_or (map (room_in side) old.shelves) rank 0 ≡ room_in side here =
+    get_or-map (room_in side) old.shelves rank here 0 below ∙ ap (λ (t : Traffic). room_in side (get_or t.shelves rank here)) (sym same)
+    ∙ ap (room_in side) (sym here_is) in
+    omega (arith, found, taken, room.queues side rank)
+
+-- the rooms of empty queues
+pub rooms_are : (shelf : Shelf) (room : Side → ℕ) → shelf.message_room ≡ room Messages → shelf.receive_room ≡ room Receives
+    → (side : Side) → room_in side shelf ≡ room side
+rooms_are shelf room messages receives Messages = messages
+rooms_are shelf room messages receives Receives = receives
 
 -- one rank more, with empty queues
-pub one_rank_more : (shelves new : List Shelf) (shelf : Shelf) (rank : ℕ) (room : ℕ → ℕ) → new ≡ shelves ++ shelf ∷ [] → shelf.mailbox ≡ no_mail
-    → shelf.room ≡ room rank
+pub one_rank_more : (shelves new : List Shelf) (shelf : Shelf) (rank : ℕ) (room : Side → ℕ → ℕ) (keys : List (List Selector)) (here : List Selector)
+    → new ≡ shelves ++ shelf ∷ [] → shelf.mailbox ≡ no_mail
+    → ((side : Side) → room_in side shelf ≡ room side rank) → shelf.keys ≡ here → here ≡ get_or keys rank here → rank < length keys
     → (map (λ (shelf : Shelf). shelf.mailbox) shelves ≡ replicate rank no_mail)
-    × (map (λ (shelf : Shelf). shelf.room) shelves ≡ map room (range_with_len 0 rank))
+    × ((side : Side) → map (room_in side) shelves ≡ map (room side) (range_with_len 0 rank))
+    × (map (λ (shelf : Shelf). shelf.keys) shelves ≡ take rank keys)
     → (map (λ (shelf : Shelf). shelf.mailbox) new ≡ replicate (rank + 1) no_mail)
-    × (map (λ (shelf : Shelf). shelf.room) new ≡ map room (range_with_len 0 (rank + 1)))
-one_rank_more shelves new shelf rank room is empty room_is so_far =
+    × ((side : Side) → map (room_in side) new ≡ map (room side) (range_with_len 0 (rank + 1)))
+    × (map (λ (shelf : Shelf). shelf.keys) new ≡ take (rank + 1) keys)
+one_rank_more shelves new shelf rank room keys here is empty room_is keys_is here_is below so_far =
     let mailbox : Shelf → Mailbox = λ shelf. shelf.mailbox in
-    let room_of : Shelf → ℕ = λ shelf. shelf.room in (
+    let known : Shelf → List Selector = λ shelf. shelf.keys in (
       ap (map mailbox) is ∙ map-append mailbox shelves (shelf ∷ [])
           ∙ ap (λ (m : Mailbox). map mailbox shelves ++ m ∷ []) empty ∙ ap (λ (all : List Mailbox). all ++ no_mail ∷ []) so_far.0 ∙ replicate_more rank no_mail,
-      ap (map room_of) is ∙ map-append room_of shelves (shelf ∷ [])
-          ∙ ap (λ (n : ℕ). map room_of shelves ++ n ∷ []) room_is ∙ ap (λ (all : List ℕ). all ++ room rank ∷ []) so_far.1
-          ∙ sym (map-range_with_len_more room 0 rank rank (zero-add rank)),
+      λ side. ap (map (room_in side)) is ∙ map-append (room_in side) shelves (shelf ∷ [])
+          ∙ ap (λ (n : ℕ). map (room_in side) shelves ++ n ∷ []) (room_is side) ∙ ap (λ (all : List ℕ). all ++ room side rank ∷ []) (so_far.1 side)
+          ∙ sym (map-range_with_len_more (room side) 0 rank rank (zero-add rank)),
+      ap (map known) is ∙ map-append known shelves (shelf ∷ [])
+          ∙ ap (λ (k : List Selector). map known shelves ++ k ∷ []) (keys_is ∙ here_is)
+          ∙ ap (λ (all : List (List Selector)). all ++ get_or keys rank here ∷ []) so_far.2
+          ∙ sym (take_more keys rank here below),
     )

@@ -7,6 +7,7 @@ use Rattle.rt_base.specs.Exchange.{Exchange, Mailbox}
 use Rattle.rt_base.specs.Completion.{is_party, is_posted}
 use Rattle.rt_base.specs.WellFormed.{WellFormed}
 use Rattle.match_engine.specs.declared.slots.Slot.{Slot}
+use Rattle.match_engine.specs.declared.slots.Side.{Side}
 use Rattle.match_engine.specs.Queues.{Traffic, exchange_of, room_at}
 use Rattle.match_engine.specs.Slots.{slot_at, slot_of, call_of, slots_that, is_open, is_due}
 
@@ -34,4 +35,4 @@ pub record KeepsExchange (program : Program) (eager : ℕ) (traffic : Traffic) (
   pub known : (req : ReqNo) → is_posted (exchange_of traffic) req ≡ true → IsSome (call_of program req)
   pub room_to_post : slots_that is_open slots ≤ traffic.posted.room
   pub room_to_match : slots_that is_open slots ≤ traffic.matches.room
-  pub room_to_wait : (rank : ℕ) → rank < program.ranks → slots_that (is_due rank) slots ≤ room_at traffic rank
+  pub room_to_wait : (side : Side) (rank : ℕ) → rank < program.ranks → slots_that (is_due side rank) slots ≤ room_at traffic side rank

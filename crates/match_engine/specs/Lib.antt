@@ -4,4 +4,5 @@ pub mod Laws
 pub mod Order
 pub mod Queues
 pub mod Slots
+pub mod Routes
 pub mod Kept

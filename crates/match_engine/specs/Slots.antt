@@ -1,5 +1,6 @@
 -- How the engine keeps what each request of the program asks for, and what became of it. No public clause cites this module.
-use Rattle.std.specs.Prelude.{ℕ, Bool, true, false, ◌==◌, ◌&&◌, List, [], map, filter, count_by, sum_by, slice_get, slice_set, slice_index_or, position, Option, Some, None, option_map, option_and_then, if◌then◌else◌, ℤ}
+use Rattle.std.specs.Prelude.{ℕ, Bool, true, false, not, ◌==◌, ◌&&◌, List, [], map, filter, count_by, sum_by, slice_get, slice_set, slice_index_or, position}
+use Rattle.std.specs.Prelude.{Option, Some, None, option_map, option_and_then, if◌then◌else◌, ℤ}
 use Rattle.rt_base.specs.declared.data.ReqNo.{ReqNo}
 use Rattle.rt_base.specs.declared.data.How.TheVariants as how
 use Rattle.rt_base.specs.declared.data.Peer.{Peer}
@@ -16,6 +17,8 @@ use Rattle.match_engine.specs.declared.slots.Call.{Call}
 use Rattle.match_engine.specs.declared.slots.Progress.{Progress}
 use Rattle.match_engine.specs.declared.slots.Progress.TheVariants.{Unposted, Waits, Matched}
 use Rattle.match_engine.specs.declared.slots.Slot.{Slot}
+use Rattle.match_engine.specs.declared.slots.Side.{Side}
+use Rattle.match_engine.specs.declared.slots.Side.TheVariants.{Messages, Receives}
 
 -- a call that posts nothing, for what is no posting operation
 abbrev pub no_call : ℕ → Call
@@ -70,9 +73,10 @@ listens (peer.Rank from) own rank = own == rank
 listens peer.Any own rank = own == rank
 listens peer.Null own rank = false
 
--- a posting of this call takes a place in the queues of the rank
-abbrev pub enters : Call → ℕ → Bool
-enters call rank = if is_receive call.how then listens call.peer call.rank rank else addresses call.peer rank
+-- a posting of this call takes a place in this queue of the rank
+abbrev pub enters : Side → Call → ℕ → Bool
+enters Messages call rank = not (is_receive call.how) && addresses call.peer rank
+enters Receives call rank = is_receive call.how && listens call.peer call.rank rank
 
 abbrev pub is_unposted : Progress → Bool
 is_unposted Unposted = true
@@ -83,9 +87,9 @@ is_unposted (Matched place) = false
 abbrev pub is_open : Slot → Bool
 is_open slot = is_unposted slot.progress
 
--- the request isn't posted yet, and will take a place in the queues of the rank
-abbrev pub is_due : ℕ → Slot → Bool
-is_due rank slot = is_open slot && enters slot.call rank
+-- the request isn't posted yet, and will take a place in this queue of the rank
+abbrev pub is_due : Side → ℕ → Slot → Bool
+is_due side rank slot = is_open slot && enters side slot.call rank
 
 -- how many slots pass a test
 abbrev pub slots_that : (Slot → Bool) → List (List Slot) → ℕ

@@ -4,8 +4,8 @@ ghost use Rattle.std.specs.Prelude.{◌≡◌, ℕ, ◌+◌, ◌-◌, ◌≤◌,
 ghost use Rattle.rt_base.specs.Completion.{is_null, completes_at_once, stored_cells, empty_status, null_status, message_status, receive_status};
 ghost use Rattle.match_engine.specs.Slots.{complete_by, call_status, call_cells};
 
-use crate::mail::{Match, Message};
 use crate::slots::{Call, Progress};
+use match_lanes::{Match, Message};
 use rt_base::{Peer, Span, Status};
 
 /// Whether a request of this call is complete, once it got so far (MPI 4.0, 3.4 and 3.7.3).

@@ -9,6 +9,8 @@ ghost use Rattle.match_engine.specs.Requests.{IsSend, IsReceive, HasSpan};
 
 use crate::completion::{cells, completes_at_once, is_complete, status};
 use crate::exchange::Exchange;
+use crate::heard::heard_by_rank;
+use crate::routes::Routes;
 use crate::slots::Slots;
 use rt_base::{Cells, Program, ReqNo, Span, Status};
 use std::alloc::{AllocError, Global};
@@ -23,38 +25,43 @@ pub struct Engine {
     eager: u32,
     exchange: Exchange,
     slots: Slots,
+    routes: Routes,
 }
 
 impl Model for Engine {
     ghost use Rattle.match_engine.specs.Switch.{Switch};
-    ghost use Rattle.match_engine.specs.Queues.{exchange_of};
+    ghost use Rattle.match_engine.specs.Queues.{exchange_of, keys_of};
     ghost use Rattle.match_engine.specs.Kept.{KeepsExchange};
+    ghost use Rattle.match_engine.specs.Routes.{AreRouted};
 
     ghost Value = { Switch };
 
     ghost view = { λ e. record { program = e.program.value; exchange = exchange_of e.exchange } };
 
-    ghost invariant = { λ e. KeepsExchange e.program.value e.eager e.exchange e.slots };
+    ghost invariant = { λ e. KeepsExchange e.program.value e.eager e.exchange e.slots × AreRouted e.program.value (keys_of e.exchange) e.routes };
 }
 
 impl Engine {
-    /// The engine of a program of which nothing is posted. Looks at each request once for each rank.
+    /// The engine of a program of which nothing is posted. Looks at each request three times for each rank, and once more at its selector.
     pub fn build(alloc: Global, prog: &Program) -> Result<Self, AllocError>
         requires { WellFormed prog.now }
         ensures program { IfOk result (λ engine. engine.program ≡ prog.now) }
         ensures exchange { IfOk result (λ engine. engine.exchange ≡ silent prog.now.ranks) }
     {
         let slots = Slots::build(alloc, prog)?;
+        let keys = heard_by_rank(alloc, &slots, prog.ranks)?;
+        let routes = Routes::build(alloc, &slots, &keys)?;
         Ok(Engine {
             program: Snapshot::of(prog),
             eager: prog.eager,
-            exchange: Exchange::build(alloc, &slots, prog.ranks)?,
+            exchange: Exchange::build(alloc, &slots, &keys, prog.ranks)?,
             slots,
+            routes,
         })
     }
 
     /// Posts a send with the cells that it takes now, and answers the receive that took its message (MPI 4.0, 3.5, order).
-    /// Looks at each waiting receive of the addressed rank at most once.
+    /// In constant time over all postings: one call may step over all that was taken from the lanes of its message since the last search there.
     pub fn post_send(&mut self, prog: &Program, req: ReqNo, cells: Cells) -> Option<ReqNo>
         requires program { prog.now ≡ self.old.program }
         requires send { IsSend self.old.program req (length cells.items) }
@@ -70,14 +77,15 @@ impl Engine {
     {
         let _ = prog;
         let slot = self.slots.get(req);
+        let way = self.routes.get(req);
         let place = self.exchange.matched();
-        let partner = self.exchange.post_send(req, slot.call, cells);
+        let partner = self.exchange.post_send(req, slot.call, cells, way);
         self.slots.settle(req, partner, place);
         partner
     }
 
     /// Posts a receive, and answers the send whose message it took (MPI 4.0, 3.5, order).
-    /// Looks at each waiting message of its rank at most once.
+    /// In constant time over all postings: one call may step over all that was taken from the lane of its selector since the last search there.
     pub fn post_recv(&mut self, prog: &Program, req: ReqNo) -> Option<ReqNo>
         requires program { prog.now ≡ self.old.program }
         requires receive { IsReceive self.old.program req }
@@ -93,8 +101,9 @@ impl Engine {
     {
         let _ = prog;
         let slot = self.slots.get(req);
+        let way = self.routes.get(req);
         let place = self.exchange.matched();
-        let partner = self.exchange.post_receive(req, slot.call);
+        let partner = self.exchange.post_receive(req, slot.call, way);
         self.slots.settle(req, partner, place);
         partner
     }

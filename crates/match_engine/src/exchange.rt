@@ -3,12 +3,15 @@
 ghost use Rattle.std.specs.Prelude.{◌≡◌, ℕ, ◌+◌, ◌≤◌, ◌<◌, ◌^◌, List, [], ◌∷◌, ◌++◌, length, map, replicate, sum_by, option_copied, Some, None, IfOk};
 ghost use Rattle.std.specs.List.{range_with_len};
 ghost use Rattle.rt_base.specs.Exchange.{exchange_after, partner_of, Sent, Asked, Nowhere, sent_by, asked_by, silent, no_mail};
-ghost use Rattle.match_engine.specs.Queues.{Shelf, exchange_of, HasRoomFor, IsPlaced, HasSpent, room_at};
+ghost use Rattle.match_lanes.specs.Shelves.{Shelf};
+ghost use Rattle.match_engine.specs.Queues.{exchange_of, keys_of, HasRoomFor, IsPlaced, HasSpent, room_in, room_at};
+ghost use Rattle.match_engine.specs.declared.slots.Side.{Side};
+ghost use Rattle.match_engine.specs.Routes.{Serves};
 ghost use Rattle.match_engine.specs.Slots.{slots_that, is_open, is_due, match_of};
 
-use crate::mail::{Match, Message, Receive};
-use crate::queues::Queues;
-use crate::slots::{Call, Progress, Slots};
+use crate::routes::Way;
+use crate::slots::{Call, Progress, Side, Slots};
+use match_lanes::{Keys, Match, Message, Queues, Receive};
 use rt_base::{Cells, Listed, Peer, ReqNo, TagSel};
 use std::alloc::{AllocError, Global};
 use std::marker::Model;
@@ -30,17 +33,25 @@ impl Model for Exchange {
 }
 
 impl Exchange {
-    /// Nothing is posted, and there is memory for all requests that aren't. Looks at all of them once for each rank.
-    pub fn build(alloc: Global, slots: &Slots, ranks: u16) -> Result<Self, AllocError>
-        requires { sum_by length slots.now < 2 ^ 63 }
+    /// Nothing is posted, and there is memory for all requests that aren't. These selectors are known at each rank.
+    /// Looks at all requests once for each rank.
+    pub fn build(
+        alloc: Global,
+        slots: &Slots,
+        keys: &[Keys],
+        ranks: u16,
+    ) -> Result<Self, AllocError>
+        requires slots { sum_by length slots.now < 2 ^ 63 }
+        requires ranks { length keys.now ≡ ranks }
         ensures exchange { IfOk result (λ e. exchange_of e ≡ silent ranks) }
         ensures posted { IfOk result (λ e. e.posted.room ≡ slots_that is_open slots.now) }
         ensures matches { IfOk result (λ e. e.matches.room ≡ slots_that is_open slots.now) }
-        ensures queues { IfOk result (λ e. (rank : ℕ) → rank < ranks → room_at e rank ≡ slots_that (is_due rank) slots.now) }
+        ensures queues { IfOk result (λ e. (side : Side) (rank : ℕ) → rank < ranks → room_at e side rank ≡ slots_that (is_due side rank) slots.now) }
+        ensures keys { IfOk result (λ e. keys_of e ≡ keys.now) }
     {
         let open = slots.open();
         Ok(Exchange {
-            queues: queues_of(alloc, slots, ranks)?,
+            queues: queues_of(alloc, slots, keys, ranks)?,
             posted: Listed::with_room(alloc, open)?,
             matches: Listed::with_room(alloc, open)?,
         })
@@ -65,10 +76,11 @@ impl Exchange {
     }
 
     /// Posts a send, and answers the request of the receive that took its message.
-    /// Looks at each waiting receive of the addressed rank at most once.
-    pub fn post_send(&mut self, req: ReqNo, call: Call, cells: Cells) -> Option<ReqNo>
+    /// In constant time over all postings.
+    pub fn post_send(&mut self, req: ReqNo, call: Call, cells: Cells, way: Way) -> Option<ReqNo>
         requires rank { IsPlaced (length self.old.shelves) (sent_by req call.rank call.peer call.tag call.comm cells.items) }
         requires room { HasRoomFor self.old (sent_by req call.rank call.peer call.tag call.comm cells.items) }
+        requires way { Serves (keys_of self.old) way (sent_by req call.rank call.peer call.tag call.comm cells.items) }
         ensures exchange { exchange_of self.new
             ≡ exchange_after (exchange_of self.old) req (sent_by req call.rank call.peer call.tag call.comm cells.items) }
         ensures partner { result ≡ partner_of (exchange_of self.old) (sent_by req call.rank call.peer call.tag call.comm cells.items) }
@@ -84,6 +96,7 @@ impl Exchange {
                     tag,
                     cells,
                 },
+                way,
             ),
             (Peer::Rank(_), TagSel::Any) => self.pass(req),
             (Peer::Any, _) => self.pass(req),
@@ -91,10 +104,11 @@ impl Exchange {
         }
     }
 
-    /// Posts a receive, and answers the request of the message that it took. Looks at each waiting message of its rank at most once.
-    pub fn post_receive(&mut self, req: ReqNo, call: Call) -> Option<ReqNo>
+    /// Posts a receive, and answers the request of the message that it took. In constant time over all postings.
+    pub fn post_receive(&mut self, req: ReqNo, call: Call, way: Way) -> Option<ReqNo>
         requires rank { IsPlaced (length self.old.shelves) (asked_by req call.rank call.peer call.tag call.comm) }
         requires room { HasRoomFor self.old (asked_by req call.rank call.peer call.tag call.comm) }
+        requires way { Serves (keys_of self.old) way (asked_by req call.rank call.peer call.tag call.comm) }
         ensures exchange { exchange_of self.new ≡ exchange_after (exchange_of self.old) req (asked_by req call.rank call.peer call.tag call.comm) }
         ensures partner { result ≡ partner_of (exchange_of self.old) (asked_by req call.rank call.peer call.tag call.comm) }
         ensures room { HasSpent self.old self.new (asked_by req call.rank call.peer call.tag call.comm) }
@@ -106,37 +120,39 @@ impl Exchange {
             tag: call.tag,
         };
         match call.peer {
-            Peer::Rank(_) => self.receive(call.rank, wish),
-            Peer::Any => self.receive(call.rank, wish),
+            Peer::Rank(_) => self.receive(call.rank, wish, way),
+            Peer::Any => self.receive(call.rank, wish, way),
             Peer::Null => self.pass(req),
         }
     }
 
-    // Posts a message to a rank, and answers the request of the receive that took it. Looks at each waiting receive of that rank at most once.
-    fn send(&mut self, to: u16, message: Message) -> Option<ReqNo>
+    // Posts a message to a rank, and answers the request of the receive that took it.
+    fn send(&mut self, to: u16, message: Message, way: Way) -> Option<ReqNo>
         requires rank { to < length self.old.shelves }
         requires room { HasRoomFor self.old (Sent to message) }
+        requires way { Serves (keys_of self.old) way (Sent to message) }
         ensures exchange { exchange_of self.new ≡ exchange_after (exchange_of self.old) message.request (Sent to message) }
         ensures partner { result ≡ partner_of (exchange_of self.old) (Sent to message) }
         ensures room { HasSpent self.old self.new (Sent to message) }
     {
         note(&mut self.posted, message.request);
-        let made = self.queues[to as usize].send(message)?;
+        let made = self.queues[to as usize].send(message, way.doors())?;
         let partner = made.receive.request;
         note(&mut self.matches, made);
         Some(partner)
     }
 
-    // Posts a receive at a rank, and answers the request of the message that it took. Looks at each waiting message of that rank at most once.
-    fn receive(&mut self, at: u16, wish: Receive) -> Option<ReqNo>
+    // Posts a receive at a rank, and answers the request of the message that it took.
+    fn receive(&mut self, at: u16, wish: Receive, way: Way) -> Option<ReqNo>
         requires rank { at < length self.old.shelves }
         requires room { HasRoomFor self.old (Asked at wish) }
+        requires way { Serves (keys_of self.old) way (Asked at wish) }
         ensures exchange { exchange_of self.new ≡ exchange_after (exchange_of self.old) wish.request (Asked at wish) }
         ensures partner { result ≡ partner_of (exchange_of self.old) (Asked at wish) }
         ensures room { HasSpent self.old self.new (Asked at wish) }
     {
         note(&mut self.posted, wish.request);
-        let made = self.queues[at as usize].receive(wish)?;
+        let made = self.queues[at as usize].receive(wish, way.lane())?;
         let partner = made.message.request;
         note(&mut self.matches, made);
         Some(partner)
@@ -155,15 +171,24 @@ impl Exchange {
 }
 
 // The empty queues of all ranks, with memory for the requests that aren't posted.
-fn queues_of(alloc: Global, slots: &Slots, ranks: u16) -> Result<Vec<Queues>, AllocError>
-    requires { sum_by length slots.now < 2 ^ 63 }
+fn queues_of(
+    alloc: Global,
+    slots: &Slots,
+    keys: &[Keys],
+    ranks: u16,
+) -> Result<Vec<Queues>, AllocError>
+    requires slots { sum_by length slots.now < 2 ^ 63 }
+    requires ranks { length keys.now ≡ ranks }
     ensures mailboxes { IfOk result (λ queues. map (λ (shelf : Shelf). shelf.mailbox) queues.items ≡ replicate ranks no_mail) }
-    ensures room { IfOk result (λ queues. map (λ (shelf : Shelf). shelf.room) queues.items
-        ≡ map (λ rank. slots_that (is_due rank) slots.now) (range_with_len 0 ranks)) }
+    ensures room { IfOk result (λ queues. (side : Side) → map (room_in side) queues.items
+        ≡ map (λ rank. slots_that (is_due side rank) slots.now) (range_with_len 0 ranks)) }
+    ensures keys { IfOk result (λ queues. map (λ (shelf : Shelf). shelf.keys) queues.items ≡ keys.now) }
 {
     let mut queues = Vec::with_capacity(alloc, ranks as usize)?;
     for rank in 0..ranks {
-        queues.push(Queues::with_room(alloc, slots.due(rank))?)?;
+        let messages = slots.due(Side::Messages, rank);
+        let receives = slots.due(Side::Receives, rank);
+        queues.push(Queues::with_room(alloc, &keys[rank as usize], messages, receives)?)?;
     }
     Ok(queues)
 }

@@ -4,9 +4,9 @@
 mod completion;
 mod engine;
 mod exchange;
+mod heard;
 mod laws;
-mod mail;
-mod queues;
+mod routes;
 mod slots;
 #[cfg(test)]
 mod tests;

@@ -1,8 +1,10 @@
 //! What each request of the program asks for, and what became of it.
 
-ghost use Rattle.std.specs.Prelude.{◌≡◌, ℕ, ◌+◌, ◌≤◌, ◌<◌, ◌^◌, Bool, List, [], ◌∷◌, ◌++◌, map, filter, length, sum_by, count_by, vec_items, Some, None, IfOk, IfSome, IsSome};
+ghost use Rattle.std.specs.Prelude.{◌≡◌, ℕ, ◌+◌, ◌≤◌, ◌<◌, ◌^◌, Bool, List, [], ◌∷◌, ◌++◌, map, filter, length, sum_by, count_by, vec_items, Some, None};
+ghost use Rattle.std.specs.Prelude.{IfOk, IfSome, IsSome};
 ghost use Rattle.rt_base.specs.Operations.{is_posting};
-ghost use Rattle.match_engine.specs.Slots.{fresh_slots, fresh_row, fresh_slot, slot_at, marked, settled, enters, addresses, listens, is_open, is_due, slots_that};
+ghost use Rattle.match_engine.specs.Slots.{fresh_slots, fresh_row, fresh_slot, slot_at, marked, settled, enters, addresses, listens, is_open, is_due};
+ghost use Rattle.match_engine.specs.Slots.{slots_that};
 
 use rt_base::{How, Op, Peer, Program, ReqNo, Span, TagSel, TaskDef};
 use std::alloc::{AllocError, Global};
@@ -36,6 +38,13 @@ pub struct Slot {
     pub progress: Progress,
 }
 
+/// One of the two queues of a rank.
+#[derive(Clone, Copy, Debug)]
+pub enum Side {
+    Messages,
+    Receives,
+}
+
 /// A slot for each request of the program, by task.
 #[derive(Drop)]
 pub struct Slots {
@@ -61,6 +70,13 @@ impl Slots {
             rows.push(row_of(alloc, task)?)?;
         }
         Ok(Slots { rows })
+    }
+
+    /// All slots, a row for each task.
+    pub fn rows(&self) -> &[Vec<Slot>]
+        ensures { map vec_items result.now ≡ self.now }
+    {
+        &self.rows
     }
 
     /// The slot of a request, in constant time. None where the program has no such request.
@@ -114,12 +130,12 @@ impl Slots {
         count_open(&self.rows)
     }
 
-    /// How many requests aren't posted and will take a place in the queues of the rank. Looks at all.
-    pub fn due(&self, rank: u16) -> usize
+    /// How many requests aren't posted and will take a place in this queue of the rank. Looks at all.
+    pub fn due(&self, side: Side, rank: u16) -> usize
         requires { sum_by length self.now < 2 ^ 63 }
-        ensures { result ≡ slots_that (is_due rank) self.now }
+        ensures { result ≡ slots_that (is_due side rank) self.now }
     {
-        count_due(&self.rows, rank)
+        count_due(&self.rows, side, rank)
     }
 }
 
@@ -142,23 +158,23 @@ fn open_in(row: &[Slot]) -> usize
     row.iter().filter(|slot| is_open(slot)).count()
 }
 
-// How many requests aren't posted and will take a place in the queues of the rank.
-fn count_due(rows: &[Vec<Slot>], rank: u16) -> usize
+// How many requests aren't posted and will take a place in this queue of the rank.
+fn count_due(rows: &[Vec<Slot>], side: Side, rank: u16) -> usize
     requires { sum_by length (map vec_items rows.now) < 2 ^ 63 }
-    ensures { result ≡ slots_that (is_due rank) (map vec_items rows.now) }
+    ensures { result ≡ slots_that (is_due side rank) (map vec_items rows.now) }
 {
     let mut count = 0;
     for row in rows {
-        count += due_in(row, rank);
+        count += due_in(row, side, rank);
     }
     count
 }
 
-// How many requests of one task aren't posted and will take a place in the queues of the rank.
-fn due_in(row: &[Slot], rank: u16) -> usize
-    ensures { result ≡ count_by (is_due rank) row.now }
+// How many requests of one task aren't posted and will take a place in this queue of the rank.
+fn due_in(row: &[Slot], side: Side, rank: u16) -> usize
+    ensures { result ≡ count_by (is_due side rank) row.now }
 {
-    row.iter().filter(|slot| is_due(slot, rank)).count()
+    row.iter().filter(|slot| is_due(slot, side, rank)).count()
 }
 
 // The slots of a task's requests, in the order of the body.
@@ -212,21 +228,20 @@ fn is_open(slot: &Slot) -> bool
     }
 }
 
-// The request isn't posted yet, and will take a place in the queues of the rank.
-fn is_due(slot: &Slot, rank: u16) -> bool
-    ensures { result ≡ is_due rank slot.now }
+// The request isn't posted yet, and will take a place in this queue of the rank.
+fn is_due(slot: &Slot, side: Side, rank: u16) -> bool
+    ensures { result ≡ is_due side rank slot.now }
 {
-    is_open(slot) && enters(slot.call, rank)
+    is_open(slot) && enters(side, slot.call, rank)
 }
 
-// A posting of this call takes a place in the queues of the rank.
-fn enters(call: Call, rank: u16) -> bool
-    ensures { result ≡ enters call rank }
+// A posting of this call takes a place in this queue of the rank.
+fn enters(side: Side, call: Call, rank: u16) -> bool
+    ensures { result ≡ enters side call rank }
 {
-    if call.how.is_receive() {
-        listens(call.peer, call.rank, rank)
-    } else {
-        addresses(call.peer, rank)
+    match side {
+        Side::Messages => !call.how.is_receive() && addresses(call.peer, rank),
+        Side::Receives => call.how.is_receive() && listens(call.peer, call.rank, rank),
     }
 }
 

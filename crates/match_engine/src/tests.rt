@@ -1,13 +1,11 @@
-//! Which message a receive takes (MPI 4.0, 3.2.4 and 3.5), and the statuses (MPI 4.0, 3.2.5; the numbers -1 and -2, the errors 0 and 1, the
-//! empty status of a send and the order between messages of different senders are this project's own).
-ghost use Rattle.std.specs.Prelude.{◌≡◌, IfOk};
+//! The statuses (MPI 4.0, 3.2.5; the numbers -1 and -2, the errors 0 and 1 and the empty status of a send are this project's own), and which
+//! sends are complete as they are posted.
 
 use crate::completion::{is_complete, status};
-use crate::mail::{Match, Message, Receive};
-use crate::queues::Queues;
 use crate::slots::{Call, Progress};
+use match_lanes::{Match, Message, Receive};
 use rt_base::{Cells, How, Peer, ReqNo, Span, Status, TagSel, TaskNo};
-use std::alloc::{AllocError, Global};
+use std::alloc::Global;
 use std::test::Fail;
 
 // The request of this number.
@@ -30,19 +28,6 @@ fn message(alloc: Global, nth: u32, comm: u16, source: u16, tag: u16) -> Message
     }
 }
 
-// Five messages wait: of communicator, source and tag 0 1 5, 0 1 6, 0 2 6, 1 1 5 and 0 1 5.
-fn with_mail(alloc: Global) -> Result<Queues, AllocError>
-    ensures { IfOk result (λ queues. queues.room ≡ 1) }
-{
-    let mut queues = Queues::with_room(alloc, 6)?;
-    let _ = queues.send(message(alloc, 0, 0, 1, 5));
-    let _ = queues.send(message(alloc, 1, 0, 1, 6));
-    let _ = queues.send(message(alloc, 2, 0, 2, 6));
-    let _ = queues.send(message(alloc, 3, 1, 1, 5));
-    let _ = queues.send(message(alloc, 4, 0, 1, 5));
-    Ok(queues)
-}
-
 // The posting of this kind, of cells 10 up to but not including 10 + count.
 fn call(how: How, count: u8, peer: Peer) -> Call {
     Call {
@@ -57,33 +42,6 @@ fn call(how: How, count: u8, peer: Peer) -> Call {
         comm: 0,
         rank: 0,
     }
-}
-
-#[test]
-fn a_receive_takes_the_oldest_message_that_it_accepts(rt: HostRuntime) -> Result<(), Fail> {
-    let alloc = rt.alloc();
-    let rows = [
-        (0, Peer::Any, TagSel::Any, Some(0)),
-        (0, Peer::Rank(1), TagSel::Tag(5), Some(0)),
-        (0, Peer::Any, TagSel::Tag(6), Some(1)),
-        (0, Peer::Rank(2), TagSel::Any, Some(2)),
-        (1, Peer::Any, TagSel::Any, Some(3)),
-        (0, Peer::Rank(3), TagSel::Any, None),
-        (0, Peer::Rank(2), TagSel::Tag(5), None),
-        (0, Peer::Rank(1), TagSel::Tag(5), Some(0)),
-    ];
-    for (comm, source, tag, want) in rows {
-        let mut queues = with_mail(alloc)?;
-        let wish = Receive {
-            request: request(9),
-            comm,
-            source,
-            tag,
-        };
-        let found = queues.receive(wish).map(|made| made.message.request);
-        assert_eq!(rt; found, want.map(request));
-    }
-    Ok(())
 }
 
 #[test]

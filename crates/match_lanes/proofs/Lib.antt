@@ -7,3 +7,4 @@ pub mod Wished
 pub mod Mailed
 pub mod Taken
 pub mod Mailboxes
+pub mod Sent

@@ -22,7 +22,7 @@ wanted_refl : (w : Wanted) → is_same_wanted w w ≡ true
 wanted_refl (wanted.Only n) = eq-eqb n n refl
 wanted_refl wanted.Any = refl
 
-same_refl : (s : Selector) → is_same s s ≡ true
+pub same_refl : (s : Selector) → is_same s s ≡ true
 same_refl s =
     and_from (s.comm == s.comm) (is_same_wanted s.source s.source && is_same_wanted s.tag s.tag) (eq-eqb s.comm s.comm refl)
     (and_from (is_same_wanted s.source s.source) (is_same_wanted s.tag s.tag) (wanted_refl s.source) (wanted_refl s.tag))

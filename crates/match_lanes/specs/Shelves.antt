@@ -9,8 +9,9 @@ use Rattle.match_lanes.specs.declared.selector.Selector.{Selector}
 abbrev pub box : List (Option Message) → List (Option Receive) → Mailbox
 box mails wishes = record { messages = waiting mails; receives = waiting wishes }
 
--- the mailbox of a rank, the selectors that its receives may have, and for how many postings more it has memory
+-- the mailbox of a rank, the selectors that its receives may have, and for how many messages and receives more it has memory
 pub record Shelf : Type 0 where
   pub mailbox : Mailbox
   pub keys : List Selector
-  pub room : ℕ
+  pub message_room : ℕ
+  pub receive_room : ℕ

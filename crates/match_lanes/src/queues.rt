@@ -12,7 +12,7 @@ use crate::wishes::Wishes;
 use std::alloc::{AllocError, Global};
 use std::marker::Model;
 
-// The most postings of a rank, so that the four hooks of each message have numbers of 32 bits.
+// The most messages of a rank, and the most receives, so that the four hooks of each message have numbers of 32 bits.
 const MOST: usize = 1_073_741_824;
 
 /// The unexpected message queue and the posted receive queue of a rank, both in the order of posting (MPI 4.0, 3.5).
@@ -20,7 +20,8 @@ const MOST: usize = 1_073_741_824;
 pub struct Queues {
     mails: Mails,
     wishes: Wishes,
-    room: usize,
+    message_room: usize,
+    receive_room: usize,
 }
 
 impl Model for Queues {
@@ -29,39 +30,53 @@ impl Model for Queues {
 
     ghost Value = { Shelf };
 
-    ghost view = { λ q. record { mailbox = box q.mails.items q.wishes.items; keys = q.mails.keys; room = q.room } };
+    ghost view = { λ q. record {
+      mailbox = box q.mails.items q.wishes.items;
+      keys = q.mails.keys;
+      message_room = q.message_room;
+      receive_room = q.receive_room;
+    } };
 
-    ghost invariant = { λ q. (q.mails.keys ≡ q.wishes.keys) × (q.room ≤ q.mails.room) × (q.room ≤ q.wishes.room) };
+    ghost invariant = { λ q. (q.mails.keys ≡ q.wishes.keys) × (q.message_room ≤ q.mails.room) × (q.receive_room ≤ q.wishes.room) };
 }
 
 impl Queues {
-    /// Empty queues with memory for `n` postings, of receives that have these selectors. More than 2^30 postings count as want of memory.
-    pub fn with_room(alloc: Global, keys: &Keys, n: usize) -> Result<Self, AllocError>
+    /// Empty queues with memory for so many messages, and for so many receives that have these selectors.
+    /// More than 2^30 of either count as want of memory.
+    pub fn with_room(
+        alloc: Global,
+        keys: &Keys,
+        messages: usize,
+        receives: usize,
+    ) -> Result<Self, AllocError>
         ensures empty { IfOk result (λ q. q.mailbox ≡ no_mail) }
         ensures keys { IfOk result (λ q. q.keys ≡ keys.now) }
-        ensures room { IfOk result (λ q. q.room ≡ n) }
+        ensures messages { IfOk result (λ q. q.message_room ≡ messages) }
+        ensures receives { IfOk result (λ q. q.receive_room ≡ receives) }
     {
-        if n > MOST {
+        if messages > MOST || receives > MOST {
             return Err(AllocError);
         }
         Ok(Queues {
-            mails: Mails::with_room(alloc, keys, n)?,
-            wishes: Wishes::with_room(alloc, keys, n)?,
-            room: n,
+            mails: Mails::with_room(alloc, keys, messages)?,
+            wishes: Wishes::with_room(alloc, keys, receives)?,
+            message_room: messages,
+            receive_room: receives,
         })
     }
 
     /// A message arrives: the oldest receive that accepts it takes it, and else it waits. Looks at four lanes, in constant time over all calls.
     pub fn send(&mut self, message: Message, doors: Doors) -> Option<Match>
-        requires room { 0 < self.old.room }
+        requires room { 0 < self.old.message_room }
         requires doors { doors ≡ doors_of self.old.keys message }
         ensures lists { self.new.mailbox ≡ send self.old.mailbox message }
         ensures made { result ≡ option_map (λ found. record { message = message; receive = found })
             (element self.old.mailbox.receives (place_of_receive self.old.mailbox message)) }
         ensures keys { self.new.keys ≡ self.old.keys }
-        ensures room { self.new.room + 1 ≡ self.old.room }
+        ensures room { self.new.message_room + 1 ≡ self.old.message_room }
+        ensures others { self.new.receive_room ≡ self.old.receive_room }
     {
-        self.room -= 1;
+        self.message_room -= 1;
         match self.wishes.first(&message, doors) {
             Some(place) => Some(Match {
                 message,
@@ -76,15 +91,16 @@ impl Queues {
 
     /// A receive is posted: it takes the oldest message that it accepts, and else it waits. Looks at one lane, in constant time over all calls.
     pub fn receive(&mut self, wish: Receive, lane: u32) -> Option<Match>
-        requires room { 0 < self.old.room }
+        requires room { 0 < self.old.receive_room }
         requires lane { IsItsLane self.old.keys wish lane }
         ensures lists { self.new.mailbox ≡ receive self.old.mailbox wish }
         ensures made { result ≡ option_map (λ found. record { message = found; receive = wish })
             (element self.old.mailbox.messages (place_of_message self.old.mailbox wish)) }
         ensures keys { self.new.keys ≡ self.old.keys }
-        ensures room { self.new.room + 1 ≡ self.old.room }
+        ensures room { self.new.receive_room + 1 ≡ self.old.receive_room }
+        ensures others { self.new.message_room ≡ self.old.message_room }
     {
-        self.room -= 1;
+        self.receive_room -= 1;
         match self.mails.first(&wish, lane) {
             Some(place) => Some(Match {
                 message: self.mails.take(place),

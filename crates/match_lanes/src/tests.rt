@@ -79,9 +79,11 @@ fn keys_of(alloc: Global, posts: &[Post]) -> Result<Keys, AllocError> {
 // Posts to the lanes. A receive that isn't known there is left out.
 fn post_to_lanes(alloc: Global, keys: &Keys, queues: &mut Queues, nth: u32, post: Post) -> Pair
     requires keys { queues.old.keys ≡ keys.now }
-    requires room { 0 < queues.old.room }
+    requires messages { 0 < queues.old.message_room }
+    requires receives { 0 < queues.old.receive_room }
     ensures keys { queues.new.keys ≡ queues.old.keys }
-    ensures room { queues.old.room ≤ queues.new.room + 1 }
+    ensures messages { queues.old.message_room ≤ queues.new.message_room + 1 }
+    ensures receives { queues.old.receive_room ≤ queues.new.receive_room + 1 }
 {
     match post {
         Post::Sent(comm, source, tag) => {
@@ -115,7 +117,7 @@ fn post_to_plain(
 
 // What each posting finds in the lanes.
 fn found(alloc: Global, keys: &Keys, posts: &[Post]) -> Result<Vec<Pair>, AllocError> {
-    let mut queues = Queues::with_room(alloc, keys, posts.len())?;
+    let mut queues = Queues::with_room(alloc, keys, posts.len(), posts.len())?;
     let mut pairs = Vec::new(alloc);
     let mut nth: u32 = 0;
     for post in posts {

@@ -9,6 +9,6 @@ overflow_add-count c =
       arith,
       c.requires,
       c.loop-row.invariant,
-      c.due_in-count.ensures ∙ ap (count_by (is_due c.args.rank)) (c.deref.ensures.value ∙ ap vec_items c.row-item.is),
-      counts_within (is_due c.args.rank) vec_items c.args.rows.now c.loop-row.row-index c.row-item.result c.loop-row-test.true,
+      c.due_in-count.ensures ∙ ap (count_by (is_due c.args.side c.args.rank)) (c.deref.ensures.value ∙ ap vec_items c.row-item.is),
+      counts_within (is_due c.args.side c.args.rank) vec_items c.args.rows.now c.loop-row.row-index c.row-item.result c.loop-row-test.true,
     )

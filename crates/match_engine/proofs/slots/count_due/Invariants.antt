@@ -4,4 +4,4 @@ use Rattle.match_engine.proofs.slots.count_due.Given as goal
 
 -- the count so far
 abbrev pub invariant-loop-row : goal.invariant-loop-row
-invariant-loop-row l = l.count ≡ sum_by (λ row. count_by (is_due l.rank) (vec_items row)) (take l.row-index l.rows)
+invariant-loop-row l = l.count ≡ sum_by (λ row. count_by (is_due l.side l.rank) (vec_items row)) (take l.row-index l.rows)

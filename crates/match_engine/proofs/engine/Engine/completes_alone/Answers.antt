@@ -5,9 +5,9 @@ use Rattle.match_engine.proofs.engine.Engine.completes_alone.Goals as goal
 
 pub get-slot-requires : goal.get-slot-requires
 get-slot-requires c =
-    posted_has_slot c.self.inside.program.value c.self.inside.eager c.self.inside.exchange c.self.inside.slots c.args.req c.self.invariant
+    posted_has_slot c.self.inside.program.value c.self.inside.eager c.self.inside.exchange c.self.inside.slots c.args.req c.self.invariant.0
     (complete_posted c.self.inside.program.value c.self.inside.exchange c.args.req c.args.self.now c.self.view_is c.requires)
 
 pub returns : goal.returns
 returns c =
-    c.completes_at_once.ensures ∙ alone_for _ _ _ _ c.args.req c.get-slot.result c.args.self.now c.self.invariant c.self.view_is c.get-slot.ensures
+    c.completes_at_once.ensures ∙ alone_for _ _ _ _ c.args.req c.get-slot.result c.args.self.now c.self.invariant.0 c.self.view_is c.get-slot.ensures
