@@ -21,7 +21,7 @@ use Rattle.task_local.specs.Local.{advanced, stop}
 use Rattle.task_local.specs.Waits.{handles_of}
 use Rattle.task_local.specs.Standing.{def_of, phase_before}
 use Rattle.task_local.specs.StandsFor.{Record, StandsFor, StandsAs}
-use Rattle.task_machine.specs.Machine.{Moved, move, bind_move, open_count, open_ones}
+use Rattle.task_machine.specs.Machine.{Moved, move, call_move, bind_move, open_count, open_ones}
 use Rattle.task_machine.specs.Legal.{final}
 use Rattle.task_machine.specs.Laws.{is_blocking_call}
 use Rattle.task_machine.specs.Owed.{opened_by}
@@ -29,22 +29,23 @@ use Rattle.task_machine.proofs.Stops.{posted_by-stop}
 use Rattle.tidy_runs.specs.Tidy.{called}
 use Rattle.wait_steps.specs.MarkedRows.{marked_all, HaveMarks}
 use Rattle.core_book.specs.Ledger.{Ledger, LeavesPending, bound_in, record_at}
-use Rattle.core_book.specs.Kept.{Shelf, IsBind, IsBook, IsNumbered, KeepsState, opens, state_now}
-use Rattle.core_book.proofs.After.{Changes}
-use Rattle.core_book.proofs.Changes.{nth_at-same}
-use Rattle.core_book.proofs.LateChanges.{bind_changes, bound_task}
-use Rattle.core_book.proofs.Few.{one_of_sum}
-use Rattle.core_book.proofs.Rooms.{few_postings}
-use Rattle.core_book.proofs.Moved.{IsMoved, gone_kept, ledger_of}
-use Rattle.core_book.proofs.Opened.{opened-row}
-use Rattle.core_book.proofs.Tells.{posted_within}
+use Rattle.core_book.specs.Kept.{Shelf, IsBind, IsBook, KeepsState, opens, state_now}
+use Rattle.book_counts.specs.Counted.{IsNumbered}
+use Rattle.task_machine.proofs.Rows.{move-row}
+use Rattle.run_bounds.proofs.Changes.{nth_at-same}
+use Rattle.run_bounds.proofs.Few.{one_of_sum}
+use Rattle.run_bounds.proofs.Rooms.{few_postings}
+use Rattle.core_book.proofs.Moved.{IsMoved, gone_kept, ledger_of, opened-row}
+use Rattle.run_bounds.proofs.Tells.{posted_within}
 use Rattle.core_book.proofs.Held.{handed_of, read_at, stands_before, stop_is_held, theirs}
 use Rattle.core_book.proofs.TidyBook.{tidy_now}
-use Rattle.core_book.proofs.BoundAfter.{BindsMore, bound_at_task}
+use Rattle.core_book.proofs.BoundAfter.{bound_at_task}
+use Rattle.book_counts.proofs.Bindings.{BindsMore}
 use Rattle.core_book.proofs.CallLemmas.{Before, before, before_may}
 use Rattle.core_book.proofs.WaitLemmas.{count_now, open_now}
-use Rattle.core_book.proofs.Numbers.{numbered_on}
-use Rattle.core_book.proofs.Names.{binding_has, few_handles, few_bound, named_open_few, open_few}
+use Rattle.book_counts.proofs.Numbers.{numbered_on}
+use Rattle.wait_steps.proofs.Naming.{binding_has}
+use Rattle.run_bounds.proofs.Operations.{few_handles, few_bound, named_open_few, open_few}
 
 -- the parts of the operation that binds
 pub record BindIs (operation : Option Op) : Type 0 where
@@ -85,7 +86,7 @@ pub bind_room : (shelf : Shelf) (held : Record) (t k : ℕ) (def : TaskDef) → 
     → length w.parts.handles.items ≤ shelf.opened_places
 bind_room shelf held t k def kept w =
     let all : opens (slice_get def.body.items k) ≡ length w.parts.handles.items = ap opens w.parts.is in
-    let room = kept.rooms.opened t k def w.it.here.is_def in
+    let room = kept.places.opened t k def w.it.here.is_def in
     omega arith
 
 pub bind_few : (shelf : Shelf) (held : Record) (t k : ℕ) (def : TaskDef) → KeepsState shelf → (w : Binds shelf held t k def)
@@ -136,17 +137,25 @@ incomplete_few shelf held t k count def named book w same counted =
     let part = open_few shelf.program shelf.engine.exchange w.it.here.was.bound in
     omega arith
 
+-- the task after it has bound these requests
+abbrev pub bound_task : Program → Exchange → TaskDef → ℕ → List ReqNo → Task → Task
+bound_task p e def k reqs was = record was {
+  phase = stop def (k + 1);
+  copy = advanced def (k + 1) was.copy;
+  named = was.named ++ k ∷ [];
+  bound = was.bound ++ open_ones p e reqs;
+}
+
 -- the task after the call
 abbrev pub bound_here : Shelf → ℕ → ℕ → TaskDef → List Handle → Task → Task
 bound_here shelf t k def handles was = bound_task shelf.program (state_now shelf).exchange def k (named_requests t handles) was
 
-pub bind_changed : (shelf : Shelf) (held : Record) (t k : ℕ) (def : TaskDef) → KeepsState shelf → (w : Binds shelf held t k def)
-    → Changes shelf.program (state_now shelf) t def w.it.here.was (bound_here shelf t k def w.parts.handles.items w.it.here.was)
-    (bind_move shelf.program (state_now shelf) t def w.it.here.was k (named_requests t w.parts.handles.items)).state
-    (bind_move shelf.program (state_now shelf) t def w.it.here.was k (named_requests t w.parts.handles.items)).entry
-bind_changed shelf held t k def kept w =
-    bind_changes shelf.program (state_now shelf) t def w.it.here.was k w.parts.handles w.parts.status w.it.here.is_def w.it.here.is_task w.it.at w.parts.is
-    (before_may shelf held t k def (op.Await true w.parts.handles w.parts.status) w.it) kept.fits
+pub bind_made : (shelf : Shelf) (held : Record) (t k : ℕ) (def : TaskDef) → (w : Binds shelf held t k def)
+    → move shelf.program (state_now shelf) t
+    ≡ bind_move shelf.program (state_now shelf) t def w.it.here.was k (named_requests t w.parts.handles.items)
+bind_made shelf held t k def w =
+    move-row shelf.program (state_now shelf) t def w.it.here.was (phase.At k) w.it.here.is_def w.it.here.is_task w.it.at
+    ∙ ap (call_move shelf.program (state_now shelf) t def w.it.here.was k) w.parts.is
 
 -- the insides after the call
 abbrev pub shelf_bound : Shelf → ℕ → Phase → List Entry → List (List Bool) → List ℕ → List ℕ → List ReqNo → ℕ → ℕ → Shelf
@@ -167,16 +176,19 @@ pub bind_moved : (shelf : Shelf) (held : Record) (t k count : ℕ) (def : TaskDe
     → count ≡ open_count shelf.engine.program shelf.engine.exchange (named_requests t named)
     → listed ≡ open_ones shelf.engine.program shelf.engine.exchange (named_requests t named)
     → entries ≡ shelf.entries ++ entry.Call (task_no t) k count ∷ [] → shelf.entry_places ≤ entry_places → shelf.opened_places ≤ opened_places
-    → IsMoved shelf (shelf_bound shelf t next entries marks bound incomplete listed entry_places opened_places) t
+    → IsMoved shelf (shelf_bound shelf t next entries marks bound incomplete listed entry_places opened_places) t w.it.here.was
     (bound_here shelf t k def w.parts.handles.items w.it.here.was)
-    (bind_move shelf.program (state_now shelf) t def w.it.here.was k (named_requests t w.parts.handles.items)).state
-    (bind_move shelf.program (state_now shelf) t def w.it.here.was k (named_requests t w.parts.handles.items)).entry
+    (bind_move shelf.program (state_now shelf) t def w.it.here.was k (named_requests t w.parts.handles.items))
 bind_moved shelf held t k count def named next entries marks bound incomplete listed entry_places opened_places kept w same stops counted opens grown more
     more' =
     let p : Program = shelf.program in
     let s : State = state_now shelf in
     let was : Task = w.it.here.was in
     record {
+      may = before_may shelf held t k def (op.Await true w.parts.handles w.parts.status) w.it;
+      moved = bind_made shelf held t k def w;
+      is_task = w.it.here.is_task;
+      tasks = refl;
       program = refl;
       workers = refl;
       handed = handed_of shelf held t def (phase.At k) (phase.At k) kept w.it.here w.it.at (λ e. absurd (cc e));
@@ -189,16 +201,14 @@ bind_moved shelf held t k count def named next entries marks bound incomplete li
       exchange = kept.exchange_is;
       phases = ap (slice_set shelf.phases t) stops;
       memory = kept.memory_is;
+      cells = refl;
       notices = kept.notices_are;
       entries = grown ∙ ap (λ (n : ℕ). shelf.entries ++ entry.Call (task_no t) k n ∷ [])
           (counted ∙ count_now shelf (named_requests t named) kept ∙ ap (λ (z : List Handle). open_count p s.exchange (named_requests t z)) same);
       statuses = kept.legal.told;
       opened = opens ∙ open_now shelf (named_requests t named) kept ∙ ap (λ (z : List Handle). open_ones p s.exchange (named_requests t z)) same
           ∙ sym (ap (opened_by p s t def was k) w.parts.is) ∙ sym (opened-row p s t def was (phase.At k) w.it.here.is_def w.it.here.is_task w.it.at);
-      entry_places = more;
-      status_places = omega arith;
-      notice_places = omega arith;
-      opened_places = more';
+      places = record { entries = more; statuses = omega arith; notices = omega arith; opened = more' };
     }
 
 pub bind_numbered : (shelf : Shelf) (held : Record) (t k : ℕ) (def : TaskDef) (next : Phase) → IsBook shelf → (w : Binds shelf held t k def)
@@ -250,9 +260,8 @@ pub bind_pending : (shelf : Shelf) (held : Record) (t k count : ℕ) (def : Task
     → count ≡ open_count shelf.engine.program shelf.engine.exchange (named_requests t named) → ledger_of shelf ≡ l → prog ≡ l.program
     → LeavesPending (move prog (final prog l.history) held.task).entry count
 bind_pending shelf held t k count def named l prog kept w same counted view of_book =
-    let made = bind_changed shelf held t k def kept w in
     theirs (λ (q : Program) (es : List Entry). LeavesPending (move q (final q es) held.task).entry count) shelf l prog view of_book
     (subst (λ (e : Entry). LeavesPending e count)
-    (sym (ap (λ (z : Moved). z.entry) (ap (move shelf.program (state_now shelf)) (sym w.it.here.who) ∙ made.moved)))
+    (sym (ap (λ (z : Moved). z.entry) (ap (move shelf.program (state_now shelf)) (sym w.it.here.who) ∙ bind_made shelf held t k def w)))
     (counted ∙ count_now shelf (named_requests t named) kept
     ∙ ap (λ (z : List Handle). open_count shelf.program (state_now shelf).exchange (named_requests t z)) same))

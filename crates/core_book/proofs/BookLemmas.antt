@@ -1,9 +1,9 @@
 -- A new book, and a book that hands out a task.
-use Rattle.std.proofs.Common.{◌≡◌, ℕ, zero, suc, ◌+◌, ◌^◌, ◌<◌, ◌≤◌, Bool, true, false, List, [], ◌∷◌, length, map, slice_get, slice_set, Some, None, Option}
+use Rattle.std.proofs.Common.{◌≡◌, ℕ, zero, suc, ◌^◌, ◌<◌, ◌≤◌, Bool, true, false, List, [], ◌∷◌, length, map, slice_get, slice_set, Some, None, Option}
 use Rattle.std.proofs.Common.{IfSome, IfNone, refl, sym, ap, ◌∙◌, subst, arith}
-use Rattle.std.specs.Prelude.{pos, replicate}
+use Rattle.std.specs.Prelude.{ℤ, pos, replicate}
+use Rattle.std.proofs.lemmas.List.{length-replicate}
 use Rattle.rt_base.specs.declared.data.TaskNo.{TaskNo}
-use Rattle.rt_base.specs.declared.data.ReqNo.{ReqNo}
 use Rattle.rt_base.specs.declared.data.Phase.{Phase}
 use Rattle.rt_base.specs.declared.data.Phase.TheVariants as phase
 use Rattle.rt_base.specs.declared.data.Status.{Status}
@@ -13,16 +13,15 @@ use Rattle.rt_base.specs.Layout.{memory_len}
 use Rattle.rt_base.specs.Precedes.{LetGo, MayStart}
 use Rattle.rt_base.specs.Exchange.{silent}
 use Rattle.rt_base.specs.State.{State, Task, opening, waiting_task, is_released, let_go}
-use Rattle.rt_base.specs.WellFormed.{WellFormed, over_operations}
+use Rattle.rt_base.specs.WellFormed.{WellFormed}
 use Rattle.region_deps.specs.Readiness.{Readiness, IsWhole, IsStartable, none_handed_out}
 use Rattle.rt_base.specs.declared.data.TaskDef.{TaskDef}
-use Rattle.task_machine.specs.Course.{most_moves}
 use Rattle.task_machine.specs.Owed.{last_opened}
 use Rattle.core_book.specs.Ledger.{Ledger, IsReady}
-use Rattle.core_book.specs.Kept.{Shelf, HasRooms, KeepsState, entries_left, most_postings, opens, postings_left, state_now, tells, to_tell}
-use Rattle.core_book.proofs.Opening.{opening_fits, in_replicate, map-replicate}
-use Rattle.core_book.proofs.Rooms.{entries_first, few_told_at_first, postings_first, room_first, told_first}
-use Rattle.core_book.proofs.Moved.{ledger_of}
+use Rattle.run_bounds.specs.Bounds.{most_entries, most_postings, most_statuses}
+use Rattle.run_bounds.proofs.Rooms.{bounds_few}
+use Rattle.core_book.specs.Kept.{Shelf, KeepsState, opens, state_now}
+use Rattle.core_book.proofs.Moved.{ledger_of, short_now}
 use Rattle.core_book.proofs.Questions.{gone_of}
 
 -- the insides of a new book
@@ -38,27 +37,24 @@ pub record IsNew (shelf : Shelf) : Type 0 where
   pub entries_are : shelf.entries ≡ []
   pub statuses_are : shelf.statuses ≡ []
   pub opened_are : shelf.opened ≡ []
-  pub entry_places : most_moves shelf.program.tasks.items + most_postings shelf.program.tasks.items ≤ shelf.entry_places
-  pub status_places : over_operations tells shelf.program.tasks.items ≤ shelf.status_places
+  pub entry_places : most_entries shelf.program ≤ shelf.entry_places
+  pub status_places : most_statuses shelf.program ≤ shelf.status_places
   pub notice_places : most_postings shelf.program.tasks.items ≤ shelf.notice_places
   pub opened_places : (t k : ℕ) (def : TaskDef) → slice_get shelf.program.tasks.items t ≡ Some def → opens (slice_get def.body.items k) ≤ shelf.opened_places
-
-new_rooms : (shelf : Shelf) → IsNew shelf → HasRooms shelf
-new_rooms shelf n =
-    let defs : List TaskDef = shelf.program.tasks.items in
-    let no_entries : length shelf.entries ≡ 0 = ap (λ (z : List Entry). length z) n.entries_are in
-    let no_statuses : length shelf.statuses ≡ 0 = ap (λ (z : List Status). length z) n.statuses_are in
-    let no_notices : length shelf.notices ≡ 0 = ap (λ (z : List ReqNo). length z) n.notices_are in
-    record {
-      entries = room_first entries_left defs shelf.phases _ _ (omega arith) n.phases_are (omega (arith, entries_first defs, n.entry_places));
-      statuses = room_first to_tell defs shelf.phases _ _ no_statuses n.phases_are (omega (arith, told_first defs, n.status_places));
-      notices = room_first postings_left defs shelf.phases _ _ no_notices n.phases_are (omega (arith, postings_first defs, n.notice_places));
-      opened = n.opened_places;
-    }
 
 none_opened : (p : Program) → [] ≡ last_opened p []
 unfolding last_opened
 none_opened p = refl
+
+-- what stands in a list of equal items
+in_replicate : {X : Type 0} (n : ℕ) (y : X) (i : ℕ) (x : X) → slice_get (replicate n y) i ≡ Some x → x ≡ y
+in_replicate zero y i x here = absurd (cc)
+in_replicate (suc n) y zero x here = cc
+in_replicate (suc n) y (suc i) x here = in_replicate n y i x here
+
+map-replicate : {X Y : Type 0} (f : X → Y) (n : ℕ) (x : X) → map f (replicate n x) ≡ replicate n (f x)
+map-replicate f zero x = refl
+map-replicate f (suc n) x = ap (λ ys. f x ∷ ys) (map-replicate f n x)
 
 pub new_book : (shelf : Shelf) → IsNew shelf → KeepsState shelf
 new_book shelf n =
@@ -68,6 +64,7 @@ new_book shelf n =
     record {
       well = n.well;
       legal = rw (n.entries_are, n.statuses_are) (record { runs = tt; replies = refl; told = refl });
+      cells = ap (λ (z : List ℤ). length z) n.memory_is ∙ length-replicate (memory_len p) (pos 0);
       memory_is = n.memory_is ∙ ap (λ (z : State). z.memory) (sym start);
       phases_are = n.phases_are ∙ sym (map-replicate (λ (z : Task). z.phase) tasks waiting_task)
           ∙ ap (λ (z : State). map (λ (x : Task). x.phase) z.tasks) (sym start);
@@ -77,12 +74,11 @@ new_book shelf n =
       gone_is = ap (λ (r : Readiness). r.gone) n.fresh
           ∙ ap (λ (r : List Bool). record { released = r }) (sym (map-replicate (λ (z : Task). is_released z.phase) tasks waiting_task))
           ∙ ap (λ (z : State). let_go z.tasks) (sym start);
-      fits = rw start (opening_fits p);
       begun = λ t at here started. absurd (started (in_replicate tasks phase.Waiting t at (sym (ap (λ (z : List Phase). slice_get z t) n.phases_are) ∙ here)));
       of_program = ap (λ (r : Readiness). r.program) n.fresh;
       whole = n.whole;
       engine_of = n.engine_of;
-      rooms = new_rooms shelf n;
+      places = record { entries = n.entry_places; statuses = n.status_places; notices = n.notice_places; opened = n.opened_places };
     }
 
 abbrev pub MayBeHanded : List Bool → Program → LetGo → ℕ → Type 0
@@ -129,22 +125,21 @@ ready_book shelf ready waits found k programs gone whole more same = record {
   well = k.well;
   legal = k.legal;
   memory_is = k.memory_is;
+  cells = k.cells;
   phases_are = k.phases_are;
   exchange_is = k.exchange_is;
   notices_are = k.notices_are;
   opened_are = k.opened_are;
   gone_is = gone ∙ k.gone_is;
-  fits = k.fits;
   begun = λ u at here started. still_handed_out shelf.ready ready found u more same (k.begun u at here started);
   of_program = programs ∙ k.of_program;
   whole = whole;
   engine_of = k.engine_of;
-  rooms = record { entries = k.rooms.entries; statuses = k.rooms.statuses; notices = k.rooms.notices; opened = k.rooms.opened };
+  places = record { entries = k.places.entries; statuses = k.places.statuses; notices = k.places.notices; opened = k.places.opened };
 }
 
 -- a book's statuses can be counted in 32 bits
 pub status_count : (shelf : Shelf) → KeepsState shelf → length shelf.statuses < 2 ^ 32
 status_count shelf k =
-    let few = few_told_at_first shelf.program k.well in
-    let told = k.rooms.statuses.few in
-    omega arith
+    let own = ap (λ (z : List Status). length z) k.legal.told in
+    omega (arith, (short_now shelf k).statuses, (bounds_few shelf.program k.well).1)

@@ -18,10 +18,8 @@ use Rattle.task_local.specs.StandsFor.{Record, StandsAs}
 use Rattle.task_machine.specs.Machine.{start_move, return_move}
 use Rattle.core_book.specs.Ledger.{record_at, record_after}
 use Rattle.core_book.specs.Kept.{Shelf, KeepsState, state_now}
-use Rattle.core_book.proofs.After.{Changes}
-use Rattle.core_book.proofs.Changes.{start_changes, return_changes}
-use Rattle.core_book.proofs.Moved.{IsMoved, moved_alone}
-use Rattle.core_book.proofs.Opened.{opened-row}
+use Rattle.task_machine.proofs.Rows.{move-row}
+use Rattle.core_book.proofs.Moved.{IsMoved, moved_alone, opened-row}
 use Rattle.core_book.proofs.Held.{Held, handed_of, stands_before, stop_is_held}
 
 -- where a record is left, by where it stands
@@ -34,12 +32,6 @@ left_as shelf held t def at h =
 -- the task after its start
 abbrev pub started_task : Shelf → TaskDef → Task → Task
 started_task shelf def was = record was { phase = stop def 0; copy = advanced def 0 (loaded shelf.program def (state_now shelf).memory) }
-
-pub start_changed : (shelf : Shelf) (held : Record) (t : ℕ) (def : TaskDef) → KeepsState shelf → (h : Held shelf held t def phase.Waiting)
-    → MayMove shelf.program (state_now shelf) t
-    → Changes shelf.program (state_now shelf) t def h.was (started_task shelf def h.was)
-    (start_move shelf.program (state_now shelf) t def h.was).state (entry.Start (task_no t))
-start_changed shelf held t def k h may = start_changes shelf.program (state_now shelf) t def h.was h.is_def h.is_task h.stands may k.fits
 
 -- the insides after a move of a task alone
 abbrev pub shelf_after : Shelf → ℕ → Phase → List Entry → List ℕ → List ReqNo → ℕ → ℕ → Shelf
@@ -54,12 +46,13 @@ shelf_after shelf t at entries waits found places places' = record shelf {
 
 pub start_moved : (shelf : Shelf) (held : Record) (t : ℕ) (def : TaskDef) (at : Phase) (entries : List Entry) (found : List ReqNo) (places places' : ℕ)
     → KeepsState shelf
-    → (h : Held shelf held t def phase.Waiting) → slice_get shelf.ready.handed t ≡ Some true → at ≡ stop def 0
+    → (h : Held shelf held t def phase.Waiting) → MayMove shelf.program (state_now shelf) t → slice_get shelf.ready.handed t ≡ Some true → at ≡ stop def 0
     → entries ≡ shelf.entries ++ entry.Start (task_no t) ∷ [] → found ≡ [] → shelf.entry_places ≤ places → shelf.opened_places ≤ places'
-    → IsMoved shelf (shelf_after shelf t at entries shelf.waits found places places') t (started_task shelf def h.was)
-    (start_move shelf.program (state_now shelf) t def h.was).state (entry.Start (task_no t))
-start_moved shelf held t def at entries found places places' k h handed stops grown none more more' =
-    moved_alone shelf t h.was (started_task shelf def h.was) (entry.Start (task_no t)) at entries shelf.waits found places places' k h.is_task
+    → IsMoved shelf (shelf_after shelf t at entries shelf.waits found places places') t h.was (started_task shelf def h.was)
+    (start_move shelf.program (state_now shelf) t def h.was)
+start_moved shelf held t def at entries found places places' k h may handed stops grown none more more' =
+    moved_alone shelf t h.was (started_task shelf def h.was) (entry.Start (task_no t)) at entries shelf.waits found places places' k may
+    (move-row shelf.program (state_now shelf) t def h.was phase.Waiting h.is_def h.is_task h.stands) h.is_task
     (rw h.stands refl) (stop_is_held def 0) handed stops grown
     (none ∙ sym (opened-row shelf.program (state_now shelf) t def h.was phase.Waiting h.is_def h.is_task h.stands)) more more'
 
@@ -96,17 +89,13 @@ may_return shelf held t def h = record {
 abbrev pub returned_task : Task → Task
 returned_task was = record was { phase = phase.Returned }
 
-pub ret_changed : (shelf : Shelf) (held : Record) (t : ℕ) (def : TaskDef) → KeepsState shelf → (h : Held shelf held t def phase.Ended)
-    → Changes shelf.program (state_now shelf) t def h.was (returned_task h.was) (return_move (state_now shelf) t h.was).state (entry.Return (task_no t))
-ret_changed shelf held t def k h =
-    return_changes shelf.program (state_now shelf) t def h.was h.is_def h.is_task h.stands.0 (may_return shelf held t def h) k.fits
-
 pub ret_moved : (shelf : Shelf) (held : Record) (t : ℕ) (def : TaskDef) (entries : List Entry) (waits : List ℕ) (found : List ReqNo) (places places' : ℕ)
     → KeepsState shelf → (h : Held shelf held t def phase.Ended)
     → entries ≡ shelf.entries ++ entry.Return (task_no t) ∷ [] → found ≡ [] → shelf.entry_places ≤ places → shelf.opened_places ≤ places'
-    → IsMoved shelf (shelf_after shelf t phase.Returned entries waits found places places') t (returned_task h.was)
-    (return_move (state_now shelf) t h.was).state (entry.Return (task_no t))
+    → IsMoved shelf (shelf_after shelf t phase.Returned entries waits found places places') t h.was (returned_task h.was)
+    (return_move (state_now shelf) t h.was)
 ret_moved shelf held t def entries waits found places places' k h grown none more more' =
-    moved_alone shelf t h.was (returned_task h.was) (entry.Return (task_no t)) phase.Returned entries waits found places places' k h.is_task
+    moved_alone shelf t h.was (returned_task h.was) (entry.Return (task_no t)) phase.Returned entries waits found places places' k
+    (may_return shelf held t def h) (move-row shelf.program (state_now shelf) t def h.was phase.Ended h.is_def h.is_task h.stands.0) h.is_task
     (rw h.stands.0 refl) refl (handed_of shelf held t def phase.Ended phase.Ended k h h.stands.0 (λ e. absurd (cc e))) refl grown
     (none ∙ sym (opened-row shelf.program (state_now shelf) t def h.was phase.Ended h.is_def h.is_task h.stands.0)) more more'

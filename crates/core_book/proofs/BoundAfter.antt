@@ -2,26 +2,15 @@
 use Rattle.std.proofs.Common.{◌≡◌, ◌≢◌, ℕ, List, ◌++◌, slice_get, slice_set, Option, Some, sym, ap, ◌∙◌, inl, inr}
 use Rattle.std.proofs.lemmas.Option.{slice_get_within}
 use Rattle.rt_base.specs.declared.data.ReqNo.{ReqNo}
-use Rattle.rt_base.specs.declared.data.Entry.{Entry}
-use Rattle.rt_base.specs.declared.data.TaskDef.{TaskDef}
 use Rattle.rt_base.specs.State.{State, Task}
-use Rattle.task_machine.specs.Machine.{bound_at, or_none}
+use Rattle.task_machine.specs.Machine.{Moved, bound_at, or_none}
 use Rattle.std.specs.Prelude.{option_map}
+use Rattle.book_counts.proofs.Bindings.{BoundAsBefore, BindsMore}
 use Rattle.core_book.specs.Ledger.{bound_in}
 use Rattle.core_book.specs.Kept.{Shelf, state_now}
 use Rattle.task_machine.proofs.Lists.{slice_get-set_same, slice_get-set_other}
 use Rattle.task_machine.proofs.Items.{either_place}
-use Rattle.core_book.proofs.After.{Changes}
 use Rattle.core_book.proofs.Moved.{IsMoved, moved_state}
-
--- each task has bound what it had bound
-abbrev pub BoundAsBefore : (ℕ → List ReqNo) → (ℕ → List ReqNo) → Type 0
-BoundAsBefore old new = (u : ℕ) → new u ≡ old u
-
--- task t has bound these requests too, and each other task what it had bound
-pub record BindsMore (t : ℕ) (more : List ReqNo) (old new : ℕ → List ReqNo) : Type 0 where
-  pub own : new t ≡ old t ++ more
-  pub others : (u : ℕ) → u ≢ t → new u ≡ old u
 
 -- what is bound to a task that is there
 pub bound_at_task : (s : State) (t : ℕ) (task : Task) → slice_get s.tasks t ≡ Some task → bound_in s t ≡ task.bound
@@ -48,21 +37,18 @@ written_bound tasks t u was now here same = elim (either_place u t) [
 ]
 
 -- after a move of a task that binds nothing
-pub bound_kept : (old new : Shelf) (t : ℕ) (def : TaskDef) (was now : Task) (state : State) (e : Entry)
-    → Changes old.program (state_now old) t def was now state e
-    → IsMoved old new t now state e → now.bound ≡ was.bound → BoundAsBefore (bound_in (state_now old)) (bound_in (state_now new))
-bound_kept old new t def was now state e c m same u =
-    ap (λ (z : State). bound_in z u) (moved_state old new t def was now state e c m) ∙ ap (bound_among u) c.tasks
-    ∙ written_bound (state_now old).tasks t u was now c.is_task same
+pub bound_kept : {old new : Shelf} {t : ℕ} {was now : Task} {made : Moved} → IsMoved old new t was now made → now.bound ≡ was.bound
+    → BoundAsBefore (bound_in (state_now old)) (bound_in (state_now new))
+bound_kept {old = old} {t = t} {was = was} {now = now} m same u =
+    ap (λ (z : State). bound_in z u) (moved_state m) ∙ ap (bound_among u) m.tasks ∙ written_bound (state_now old).tasks t u was now m.is_task same
 
 -- after a move of a task that binds these
-pub bound_more : (old new : Shelf) (t : ℕ) (def : TaskDef) (was now : Task) (state : State) (e : Entry) (more : List ReqNo)
-    → Changes old.program (state_now old) t def was now state e
-    → IsMoved old new t now state e → now.bound ≡ was.bound ++ more → BindsMore t more (bound_in (state_now old)) (bound_in (state_now new))
-bound_more old new t def was now state e more c m is =
-    let after = λ (u : ℕ). ap (λ (z : State). bound_in z u) (moved_state old new t def was now state e c m) ∙ ap (bound_among u) c.tasks in
+pub bound_more : {old new : Shelf} {t : ℕ} {was now : Task} {made : Moved} (more : List ReqNo) → IsMoved old new t was now made
+    → now.bound ≡ was.bound ++ more → BindsMore t more (bound_in (state_now old)) (bound_in (state_now new))
+bound_more {old = old} {t = t} {was = was} {now = now} more m is =
+    let after = λ (u : ℕ). ap (λ (z : State). bound_in z u) (moved_state m) ∙ ap (bound_among u) m.tasks in
     record {
-      own = after t ∙ own_bound (state_now old).tasks t was now c.is_task ∙ is
-          ∙ ap (λ (reqs : List ReqNo). reqs ++ more) (sym (bound_at_task (state_now old) t was c.is_task));
+      own = after t ∙ own_bound (state_now old).tasks t was now m.is_task ∙ is
+          ∙ ap (λ (reqs : List ReqNo). reqs ++ more) (sym (bound_at_task (state_now old) t was m.is_task));
       others = λ u other. after u ∙ other_bound (state_now old).tasks t u now other;
     }

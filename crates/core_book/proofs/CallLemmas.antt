@@ -1,17 +1,13 @@
 -- What the call of a posting owes, in terms of a book's fields.
-use Rattle.std.proofs.Common.{◌≡◌, ℕ, zero, suc, ◌+◌, ◌<◌, ◌≤◌, ◌⊎◌, Bool, true, false, not, ◌&&◌, ◌||◌, cond, List, [], ◌∷◌, ◌++◌, length, take, drop, filter}
+use Rattle.std.proofs.Common.{◌≡◌, ℕ, ◌+◌, ◌<◌, ◌≤◌, ◌⊎◌, Bool, true, false, not, ◌&&◌, ◌||◌, cond, List, [], ◌∷◌, ◌++◌, length, drop}
 use Rattle.std.proofs.Common.{slice_get, slice_set, Some, None, Option, refl, sym, ap, ◌∙◌, subst, inl, inr, arith}
-use Rattle.std.specs.Prelude.{ℤ, option_and_then, count_by, IfSome, ◌==◌}
+use Rattle.std.specs.Prelude.{ℤ, count_by, IfSome, ◌==◌}
 use Rattle.std.specs.List.{list_any}
-use Rattle.std.proofs.lemmas.Option.{slice_get_within, get_or_from_slice_get}
-use Rattle.std.proofs.lemmas.List.{length-take, length-drop}
-use Rattle.std.proofs.lemmas.List.Sums.{sum_by-cons}
+use Rattle.std.proofs.lemmas.Option.{slice_get_within}
+use Rattle.std.proofs.lemmas.List.{length-append, length-take, length-drop}
 use Rattle.std.proofs.lemmas.List.Folds.{list_any-append}
 use Rattle.rt_base.specs.declared.data.ReqNo.{ReqNo}
 use Rattle.rt_base.specs.declared.data.Span.{Span}
-use Rattle.rt_base.specs.declared.data.Peer.{Peer}
-use Rattle.rt_base.specs.declared.data.TagSel.{TagSel}
-use Rattle.rt_base.specs.declared.data.How.{How}
 use Rattle.rt_base.specs.declared.data.Op.{Op}
 use Rattle.rt_base.specs.declared.data.Op.TheVariants as op
 use Rattle.rt_base.specs.declared.data.Phase.{Phase}
@@ -21,21 +17,20 @@ use Rattle.rt_base.specs.declared.data.Entry.TheVariants as entry
 use Rattle.rt_base.specs.declared.data.TaskDef.{TaskDef}
 use Rattle.rt_base.specs.declared.data.Program.{Program}
 use Rattle.rt_base.specs.Spans.{span_len}
-use Rattle.rt_base.specs.Operations.{task_no, request, blocks, is_local, is_receive, is_posting, posting_of, nth_at}
+use Rattle.rt_base.specs.Operations.{task_no, request, blocks, is_local, is_receive, posting_of, nth_at}
 use Rattle.rt_base.specs.Matching.{same_request}
 use Rattle.rt_base.specs.Exchange.{Exchange, post, partner}
 use Rattle.rt_base.specs.Completion.{is_posted, is_complete, completes_alone}
 use Rattle.rt_base.specs.State.{State, Task, is_released}
 use Rattle.rt_base.specs.MayMove.{MayMove, MayMoveAt}
-use Rattle.rt_base.specs.WellFormed.{WellFormed, IsTask, IsOperation, IsPostingOf, IsDeclared, region_cells}
+use Rattle.rt_base.specs.WellFormed.{IsDeclared, region_cells}
 use Rattle.match_engine.specs.Switch.{Switch}
 use Rattle.match_engine.specs.Requests.{IsSend, IsReceive, Sends, Receives}
 use Rattle.task_local.specs.Regions.{cells_of_span, place}
-use Rattle.task_local.specs.Local.{advanced, stop, run_front, stop_at}
+use Rattle.task_local.specs.Local.{stop}
 use Rattle.task_local.specs.Packed.{packed, packed_by}
 use Rattle.task_local.specs.StandsFor.{Record, StandsFor, StandsAs}
-use Rattle.rt_base.specs.declared.data.How.TheVariants as how
-use Rattle.task_machine.specs.Machine.{Moved, move, post_move, posted_task, noticed, awaited_at, is_expected, open_count, phase_at}
+use Rattle.task_machine.specs.Machine.{Moved, move, call_move, post_move, posted_task, noticed, awaited_at, is_expected, open_count, phase_at}
 use Rattle.task_machine.specs.Course.{posted_by_phase}
 use Rattle.std.proofs.lemmas.Bool.{false_from_ne_true}
 use Rattle.task_local.proofs.Places.{declared_fits}
@@ -45,36 +40,14 @@ use Rattle.task_machine.specs.Legal.{final, phases_of}
 use Rattle.task_machine.specs.Laws.{is_blocking_call}
 use Rattle.task_machine.specs.Owed.{opened, opened_by, opened_by_posting}
 use Rattle.task_machine.proofs.Lists.{slice_get-map}
-use Rattle.task_machine.proofs.Items.{same_some}
-use Rattle.task_machine.proofs.Stops.{drop_at}
 use Rattle.wait_steps.specs.MarkedRows.{is_marked}
 use Rattle.core_book.specs.Ledger.{Ledger, LeavesPending, bound_in, record_at}
-use Rattle.core_book.specs.Kept.{Shelf, KeepsState, PostsAs, opens, state_now, completed_now, expects_now}
-use Rattle.core_book.proofs.After.{Changes}
-use Rattle.core_book.proofs.Tells.{posted_within}
-use Rattle.core_book.proofs.Changes.{nth_at-suc, post_changes}
-use Rattle.core_book.proofs.Moved.{IsMoved, gone_kept, ledger_of}
-use Rattle.core_book.proofs.Opened.{opened-row}
-use Rattle.core_book.proofs.Stops.{stop_here}
+use Rattle.core_book.specs.Kept.{Shelf, KeepsState, PostsAs, opens, state_now}
+use Rattle.book_counts.specs.Counted.{completed_now, expects_now}
+use Rattle.task_machine.proofs.Rows.{move-row}
+use Rattle.core_book.proofs.Moved.{IsMoved, fits_now, gone_kept, ledger_of, opened-row}
 use Rattle.core_book.proofs.Held.{Held, held_at, handed_of, notice_room, stands_before, stop_is_held, theirs}
-
-drop_here : (ops : List Op) (k : ℕ) (x : Op) → slice_get ops k ≡ Some x → drop k ops ≡ x ∷ drop (k + 1) ops
-drop_here ops k x here = drop_at ops k x (slice_get_within ops k x here) (sym (get_or_from_slice_get ops k x x here))
-
--- before a call no local operation is next
-stop_at_call : (def : TaskDef) (k : ℕ) (x : Op) → slice_get def.body.items k ≡ Some x → is_local x ≡ false → stop def k ≡ phase.At k
-unfolding stop
-stop_at_call def k x here other = ap (stop_at k) (drop_here def.body.items k x here) ∙ stop_here k x (drop (k + 1) def.body.items) other
-
-not_run : (def : TaskDef) (x : Op) (ops : List Op) (copy : List ℤ) → is_local x ≡ false → run_front def (x ∷ ops) copy ≡ copy
-not_run def (op.Compute kind dst left right value step) ops copy other = absurd (cc)
-not_run def (op.Post how span peer tag comm status) ops copy other = refl
-not_run def (op.Await later handles status) ops copy other = refl
-
-advanced_at_call : (def : TaskDef) (k : ℕ) (x : Op) (copy : List ℤ) → slice_get def.body.items k ≡ Some x → is_local x ≡ false → advanced def k copy ≡ copy
-unfolding advanced
-advanced_at_call def k x copy here other =
-    ap (λ (ops : List Op). run_front def ops copy) (drop_here def.body.items k x here) ∙ not_run def x (drop (k + 1) def.body.items) copy other
+use Rattle.run_bounds.proofs.Operations.{advanced_at_call, operation_is, posting_is, send_declares, stop_at_call}
 
 -- a task that is before a call, as its record and the machine's state have it
 pub record Before (shelf : Shelf) (held : Record) (t k : ℕ) (def : TaskDef) (x : Op) : Type 0 where
@@ -129,7 +102,7 @@ calls shelf held t k def posting l prog view same stands who is_def place posts 
       copy = b.copy;
     }
 
-call_may : (shelf : Shelf) (held : Record) (t k : ℕ) (def : TaskDef) (posting : Posting) → Calls shelf held t k def posting
+pub call_may : (shelf : Shelf) (held : Record) (t k : ℕ) (def : TaskDef) (posting : Posting) → Calls shelf held t k def posting
     → MayMove shelf.program (state_now shelf) t
 call_may shelf held t k def posting c =
     before_may shelf held t k def (posting_op posting _ c.posts) (record { here = c.here; is = c.posts.is; at = c.at; copy = c.copy })
@@ -137,86 +110,13 @@ call_may shelf held t k def posting c =
 pub call_within : (def : TaskDef) (k : ℕ) (posting : Posting) → PostsAs (slice_get def.body.items k) posting → k < length def.body.items
 call_within def k posting posts = slice_get_within def.body.items k (op.Post posting.how posting.span posts.peer posts.tag posts.comm posting.status) posts.is
 
--- a posting has room for a notice, and for its own request among what is opened
-pub post_room : (shelf : Shelf) (held : Record) (t k : ℕ) (def : TaskDef) (posting : Posting) → KeepsState shelf → Calls shelf held t k def posting
-    → length shelf.notices < shelf.notice_places
-post_room shelf held t k def posting kept c =
-    let room = notice_room shelf held t def (phase.At k) (phase.At k) kept c.here c.at in
-    let more = nth_at-suc def k (posting_op posting _ c.posts) c.posts.is refl in
-    let most = posted_within def (k + 1) in
-    omega arith
-
+-- a posting has room for its own request among what is opened
 pub post_opens : (shelf : Shelf) (held : Record) (t k : ℕ) (def : TaskDef) (posting : Posting) → KeepsState shelf → Calls shelf held t k def posting
     → 1 ≤ shelf.opened_places
 post_opens shelf held t k def posting kept c =
     let one : opens (slice_get def.body.items k) ≡ 1 = ap opens c.posts.is in
-    let room = kept.rooms.opened t k def c.here.is_def in
+    let room = kept.places.opened t k def c.here.is_def in
     omega arith
-
-one_more : (n : ℕ) → 1 + n ≡ suc n
-one_more n = omega arith
-
-none_more : (n : ℕ) → 0 + n ≡ n
-none_more n = omega arith
-
-first_kept : (y : Op) (ops : List Op) (x : Op) (keeps : Bool) → is_posting y ≡ keeps → keeps ≡ true → y ≡ x → slice_get (filter is_posting (y ∷ ops)) 0 ≡ Some x
-first_kept y ops x keeps is passes same =
-    ap (λ (b : Bool). slice_get (cond b (y ∷ filter is_posting ops) (filter is_posting ops)) 0) (is ∙ passes) ∙ ap Some same
-
-kept_after_first : (y : Op) (ops : List Op) (k : ℕ) (x : Op) (keeps : Bool) → is_posting y ≡ keeps
-    → slice_get (filter is_posting ops) (count_by is_posting (take k ops)) ≡ Some x
-    → slice_get (filter is_posting (y ∷ ops)) (count_by is_posting (y ∷ take k ops)) ≡ Some x
-kept_after_first y ops k x true is found =
-    let n = count_by is_posting (take k ops) in
-    let count : count_by is_posting (y ∷ take k ops) ≡ suc n = sum_by-cons (λ (z : Op). cond (is_posting z) 1 0) y (take k ops)
-    ∙ ap (λ (b : Bool). cond b 1 0 + n) is ∙ one_more n in
-    ap (λ (b : Bool). slice_get (cond b (y ∷ filter is_posting ops) (filter is_posting ops)) (count_by is_posting (y ∷ take k ops))) is
-    ∙ ap (slice_get (y ∷ filter is_posting ops)) count ∙ found
-kept_after_first y ops k x false is found =
-    let n = count_by is_posting (take k ops) in
-    let count : count_by is_posting (y ∷ take k ops) ≡ n = sum_by-cons (λ (z : Op). cond (is_posting z) 1 0) y (take k ops)
-    ∙ ap (λ (b : Bool). cond b 1 0 + n) is ∙ none_more n in
-    ap (λ (b : Bool). slice_get (cond b (y ∷ filter is_posting ops) (filter is_posting ops)) (count_by is_posting (y ∷ take k ops))) is
-    ∙ ap (slice_get (filter is_posting ops)) count ∙ found
-
--- the request of operation k is posted by operation k
-pub posting_found : (ops : List Op) (k : ℕ) (x : Op) → slice_get ops k ≡ Some x → is_posting x ≡ true
-    → slice_get (filter is_posting ops) (count_by is_posting (take k ops)) ≡ Some x
-posting_found [] k x here posts = absurd (cc)
-posting_found (y ∷ ops) zero x here posts =
-    let same : y ≡ x = same_some here in
-    first_kept y ops x (is_posting y) refl (ap is_posting same ∙ posts) same
-posting_found (y ∷ ops) (suc k) x here posts = kept_after_first y ops k x (is_posting y) refl (posting_found ops k x here posts)
-
-pub posting_is : (p : Program) (t k : ℕ) (def : TaskDef) (x : Op) → slice_get p.tasks.items t ≡ Some def → slice_get def.body.items k ≡ Some x
-    → is_posting x ≡ true
-    → posting_of p (request t (nth_at def k)) ≡ Some x
-posting_is p t k def x is_def is_op posts =
-    ap (λ (o : Option TaskDef). option_and_then (λ (task : TaskDef). slice_get (filter is_posting task.body.items) (nth_at def k)) o) is_def
-    ∙ posting_found def.body.items k x is_op posts
-
--- what a send reads is declared
-send_declares : (p : Program) (def : TaskDef) (how : How) (span : Span) (peer : Peer) (tag : TagSel) (status : Option Span) → is_receive how ≡ false
-    → IsPostingOf p def how span peer tag status
-    → IsDeclared def.accesses.items span
-send_declares p def how.Send span peer tag None sends is = is.0.declared
-send_declares p def how.Send span peer tag (Some cells) sends is = absurd is
-send_declares p def how.Ssend span peer tag None sends is = is.0.declared
-send_declares p def how.Ssend span peer tag (Some cells) sends is = absurd is
-send_declares p def how.Recv span peer tag status sends is = absurd (cc)
-send_declares p def how.Isend span peer tag None sends is = is.0.declared
-send_declares p def how.Isend span peer tag (Some cells) sends is = absurd is
-send_declares p def how.Issend span peer tag None sends is = is.0.declared
-send_declares p def how.Issend span peer tag (Some cells) sends is = absurd is
-send_declares p def how.Irecv span peer tag status sends is = absurd (cc)
-
--- an operation of a program that may be run
-pub operation_is : (p : Program) (t k : ℕ) (def : TaskDef) (x : Op) → WellFormed p → slice_get p.tasks.items t ≡ Some def
-    → slice_get def.body.items k ≡ Some x → IsOperation p def x
-operation_is p t k def x well is_def is_op =
-    let task : IsTask p def = subst (IsTask p) (get_or_from_slice_get p.tasks.items t def def is_def)
-    (well.tasks t def (slice_get_within p.tasks.items t def is_def)) in
-    subst (IsOperation p def) (get_or_from_slice_get def.body.items k x x is_op) (task.body k x (slice_get_within def.body.items k x is_op))
 
 -- the cells of a declared span are all in the copy
 whole_span : (def : TaskDef) (span : Span) (copy : List ℤ) → IsDeclared def.accesses.items span → length copy ≡ region_cells def
@@ -287,7 +187,7 @@ pub call_is_new : (shelf : Shelf) (held : Record) (t k n : ℕ) (def : TaskDef) 
     → is_posted shelf.engine.exchange (record { task = task_no t; nth = n }) ≡ false
 call_is_new shelf held t k n def posting kept c nth =
     false_from_ne_true (is_posted shelf.engine.exchange (request t n)) (λ posted.
-    let already = kept.fits.posted t n def c.here.was c.here.is_def c.here.is_task
+    let already = (fits_now shelf kept).posted t n def c.here.was c.here.is_def c.here.is_task
     (subst (λ (e : Exchange). is_posted e (request t n) ≡ true) kept.exchange_is posted) in
     let count : posted_by_phase def c.here.was.phase ≡ nth_at def k = ap (posted_by_phase def) c.at in
     absurd (omega arith))
@@ -332,14 +232,12 @@ told_now_is p s phs marks (Some other) marked are before =
     ap (λ (b : Bool). cond (not b && expects_now p phs marks other) (other ∷ []) []) (sym before)
     ∙ ap (λ (b : Bool). cond (not (is_complete p s.exchange other) && b) (other ∷ []) []) (sym (expected_now p s phs marks other marked are))
 
--- what the move changes
-pub call_changed : (shelf : Shelf) (held : Record) (t k : ℕ) (def : TaskDef) (posting : Posting) → KeepsState shelf → (c : Calls shelf held t k def posting)
-    → Changes shelf.program (state_now shelf) t def c.here.was (posted_task def k (blocks posting.how) c.here.was)
-    (post_move shelf.program (state_now shelf) t def c.here.was k (blocks posting.how)).state
-    (post_move shelf.program (state_now shelf) t def c.here.was k (blocks posting.how)).entry
-call_changed shelf held t k def posting kept c =
-    post_changes shelf.program (state_now shelf) t def c.here.was k posting c.here.is_def c.here.is_task c.at c.posts
-    (call_may shelf held t k def posting c) kept.fits
+-- the move, and its parts
+pub call_made : (shelf : Shelf) (held : Record) (t k : ℕ) (def : TaskDef) (posting : Posting) → (c : Calls shelf held t k def posting)
+    → move shelf.program (state_now shelf) t ≡ post_move shelf.program (state_now shelf) t def c.here.was k (blocks posting.how)
+call_made shelf held t k def posting c =
+    move-row shelf.program (state_now shelf) t def c.here.was (phase.At k) c.here.is_def c.here.is_task c.at
+    ∙ ap (call_move shelf.program (state_now shelf) t def c.here.was k) c.posts.is
 
 posted_phase : (def : TaskDef) (k : ℕ) (blocking : Bool) (was : Task) → (posted_task def k blocking was).phase ≡ cond blocking (phase.In k) (stop def (k + 1))
 posted_phase def k true was = refl
@@ -447,6 +345,19 @@ call_notices shelf held t k n count def posting cells engine found prog phases n
     ∙ ap (λ (z : List ReqNo). s.notices ++ z) (told_now_is p s shelf.phases shelf.marks found marked kept.phases_are was_open)
     ∙ ap (λ (o : Option ReqNo). s.notices ++ noticed p s.tasks s.exchange o) of_state
 
+-- there is room for the notice
+pub post_room : (shelf : Shelf) (held : Record) (t k n count : ℕ) (def : TaskDef) (posting : Posting) (cells : List ℤ) (engine : Switch)
+    (found : Option ReqNo) (prog : Program) (phases : List Phase) (more : List ReqNo) → KeepsState shelf
+    → MarksBound shelf.program (state_now shelf) shelf.marks
+    → (c : Calls shelf held t k def posting) → Answered shelf held t k n count def posting cells engine found → prog ≡ shelf.program → phases ≡ shelf.phases
+    → more ≡ completed_now prog (expects_now prog phases shelf.marks) found → length shelf.notices + length more ≤ shelf.notice_places
+post_room shelf held t k n count def posting cells engine found prog phases more kept marked c a same seen told =
+    let fits = notice_room shelf t (shelf.notices ++ more) kept (call_may shelf held t k def posting c)
+    (call_notices shelf held t k n count def posting cells engine found prog phases (shelf.notices ++ more) kept marked c a same seen
+    (ap (λ (z : List ReqNo). shelf.notices ++ z) told)
+    ∙ ap (λ (z : Moved). z.state.notices) (sym (call_made shelf held t k def posting c))) in
+    omega (arith, length-append shelf.notices more)
+
 pub call_moved : (shelf : Shelf) (held : Record) (t k n count : ℕ) (def : TaskDef) (posting : Posting) (cells : List ℤ) (engine : Switch) (found : Option ReqNo)
     (prog : Program) (phases : List Phase) (at : Phase) (notices : List ReqNo) (entries : List Entry) (waits posted incomplete : List ℕ)
     (listed : List ReqNo) (entry_places notice_places opened_places : ℕ)
@@ -468,11 +379,14 @@ pub call_moved : (shelf : Shelf) (held : Record) (t k n count : ℕ) (def : Task
       entry_places = entry_places;
       notice_places = notice_places;
       opened_places = opened_places;
-    }) t (posted_task def k (blocks posting.how) c.here.was) (post_move shelf.program (state_now shelf) t def c.here.was k (blocks posting.how)).state
-    (post_move shelf.program (state_now shelf) t def c.here.was k (blocks posting.how)).entry
+    }) t c.here.was (posted_task def k (blocks posting.how) c.here.was) (post_move shelf.program (state_now shelf) t def c.here.was k (blocks posting.how))
 call_moved shelf held t k n count def posting cells engine found prog phases at notices entries waits posted incomplete listed entry_places notice_places
     opened_places kept marked c a same seen told stops grown opens more more' more'' =
     record {
+      may = call_may shelf held t k def posting c;
+      moved = call_made shelf held t k def posting c;
+      is_task = c.here.is_task;
+      tasks = refl;
       program = refl;
       workers = refl;
       handed = handed_of shelf held t def (phase.At k) (phase.At k) kept c.here c.at (λ e. absurd (cc e));
@@ -484,14 +398,12 @@ call_moved shelf held t k n count def posting cells engine found prog phases at 
       exchange = call_exchange shelf held t k n count def posting cells engine found kept c a;
       phases = ap (slice_set shelf.phases t) (stops ∙ sym (posted_phase def k (blocks posting.how) c.here.was));
       memory = kept.memory_is;
+      cells = refl;
       notices = call_notices shelf held t k n count def posting cells engine found prog phases notices kept marked c a same seen told;
       entries = grown ∙ ap (λ (e : Entry). shelf.entries ++ e ∷ []) (call_entry shelf held t k n count def posting cells engine found kept c a);
       statuses = kept.legal.told;
       opened = opens;
-      entry_places = more;
-      status_places = omega arith;
-      notice_places = more';
-      opened_places = more'';
+      places = record { entries = more; statuses = omega arith; notices = more'; opened = more'' };
     }
 
 blocking_is : (def : TaskDef) (k : ℕ) (posting : Posting) → PostsAs (slice_get def.body.items k) posting
@@ -527,8 +439,7 @@ pub call_pending : (shelf : Shelf) (held : Record) (t k n count : ℕ) (def : Ta
     → prog ≡ l.program
     → LeavesPending (move prog (final prog l.history) held.task).entry count
 call_pending shelf held t k n count def posting cells engine found l prog kept c a view same =
-    let made = call_changed shelf held t k def posting kept c in
     theirs (λ (q : Program) (es : List Entry). LeavesPending (move q (final q es) held.task).entry count) shelf l prog view same
     (subst (λ (e : Entry). LeavesPending e count)
     (call_entry shelf held t k n count def posting cells engine found kept c a
-    ∙ sym (ap (λ (z : Moved). z.entry) (ap (move shelf.program (state_now shelf)) (sym c.here.who) ∙ made.moved))) refl)
+    ∙ sym (ap (λ (z : Moved). z.entry) (ap (move shelf.program (state_now shelf)) (sym c.here.who) ∙ call_made shelf held t k def posting c))) refl)

@@ -29,18 +29,21 @@ use Rattle.tidy_runs.specs.Tidy.{AreOf, called}
 use Rattle.wait_steps.specs.MarkedRows.{is_marked}
 use Rattle.core_book.specs.declared.posting.Posting.{Posting}
 use Rattle.core_book.specs.Ledger.{bound_in}
-use Rattle.core_book.specs.Kept.{Shelf, IsBook, IsBinding, IsCounted, KeepsState, state_now, waits_at, holds_now, expects_now, completed_now, one_less_for}
-use Rattle.core_book.specs.Kept.{told_requests}
-use Rattle.core_book.specs.declared.telling.Told.{Told}
+use Rattle.core_book.specs.Kept.{Shelf, IsBook, KeepsState, state_now}
+use Rattle.book_counts.specs.Counted.{IsBinding, IsCounted, waits_at, holds_now, expects_now, completed_now, one_less_for}
+use Rattle.book_counts.specs.Counted.{told_requests}
+use Rattle.book_counts.specs.declared.telling.Told.{Told}
 use Rattle.core_book.proofs.Told.{told_exists}
-use Rattle.core_book.proofs.BoundAfter.{BoundAsBefore, bound_at_task}
+use Rattle.core_book.proofs.BoundAfter.{bound_at_task}
+use Rattle.book_counts.proofs.Bindings.{BoundAsBefore}
 use Rattle.core_book.proofs.TidyBook.{tidy_now}
 use Rattle.core_book.proofs.Held.{stop_is_held, phases_counted, read_at}
-use Rattle.core_book.proofs.Questions.{awaited_is, standing}
+use Rattle.core_book.proofs.Questions.{standing}
+use Rattle.book_counts.proofs.Awaiting.{awaited_is}
 use Rattle.core_book.proofs.CallLemmas.{Calls, Answered, MarksBound}
-use Rattle.core_book.proofs.CountLemmas.{counted_after, stop_waits, held_one}
-use Rattle.core_book.proofs.OpenCounts.{none_of_others}
-use Rattle.core_book.proofs.Tallies.{Completes, IsListed, beside, heard, heard_own, heard_once, holds_is, tally_after, waits_parts}
+use Rattle.book_counts.proofs.CountLemmas.{counted_after, stop_waits, held_one}
+use Rattle.book_counts.proofs.OpenCounts.{none_of_others}
+use Rattle.book_counts.proofs.Tallies.{Completes, IsListed, beside, heard, heard_own, heard_once, holds_is, tally_after, waits_parts}
 
 -- that for which another task waits
 heard_listed : (shelf : Shelf) (u : ℕ) (def : TaskDef) (at : Phase) (own : ReqNo) → KeepsState shelf

@@ -13,13 +13,14 @@ use Rattle.rt_base.specs.State.{let_go}
 use Rattle.region_deps.specs.Readiness.{IsStartable}
 use Rattle.task_local.specs.Local.{stop}
 use Rattle.task_local.specs.StandsFor.{Record}
-use Rattle.core_book.specs.Kept.{Shelf, IsBook, IsCounted, state_now, is_unreleased, waits_at}
+use Rattle.core_book.specs.Kept.{Shelf, IsBook, state_now}
+use Rattle.book_counts.specs.Counted.{IsCounted, is_unreleased, waits_at}
 use Rattle.core_book.proofs.Held.{Held, read_at, stop_is_held}
 use Rattle.core_book.proofs.LeaveLemmas.{Within, enabled_in}
-use Rattle.core_book.proofs.CountLemmas.{counted_on, counted_move, counted_ready, count-set, stop_waits, waits_for_none, held_one}
+use Rattle.book_counts.proofs.CountLemmas.{counted_on, counted_move, counted_ready, count-set, stop_waits, waits_for_none, held_one}
 use Rattle.core_book.specs.Ledger.{bound_in}
 use Rattle.rt_base.specs.declared.data.ReqNo.{ReqNo}
-use Rattle.core_book.proofs.BoundAfter.{BoundAsBefore}
+use Rattle.book_counts.proofs.Bindings.{BoundAsBefore}
 use Rattle.core_book.proofs.Quiet.{handed_waits, startable_waits, startable_start}
 
 -- what the counts of a book become, where tasks have bound these requests

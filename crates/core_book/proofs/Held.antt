@@ -1,9 +1,9 @@
 -- The task of a record, as the caller, the book and the machine's state have it.
-use Rattle.std.proofs.Common.{◌≡◌, ◌≢◌, ℕ, ◌+◌, ◌<◌, ◌≤◌, Bool, true, false, List, length, drop, slice_get, Some, Option, refl, sym, ap, ◌∙◌, subst, cond}
-use Rattle.std.proofs.Common.{ltb, arith}
+use Rattle.std.proofs.Common.{◌≡◌, ◌≢◌, ℕ, ◌+◌, ◌^◌, ◌<◌, ◌≤◌, Bool, true, false, List, ◌++◌, length, drop, slice_get, Some, Option, refl, sym, ap, ◌∙◌, subst}
+use Rattle.std.proofs.Common.{cond, ltb, arith}
 use Rattle.std.specs.Prelude.{ℤ, unwrap_or}
 use Rattle.std.proofs.lemmas.Option.{slice_get_within}
-use Rattle.std.proofs.lemmas.List.{length-map}
+use Rattle.std.proofs.lemmas.List.{length-map, length-append}
 use Rattle.std.proofs.lemmas.Bool.{ltb-false}
 use Rattle.rt_base.specs.declared.data.Phase.{Phase}
 use Rattle.rt_base.specs.declared.data.Phase.TheVariants as phase
@@ -11,19 +11,21 @@ use Rattle.rt_base.specs.declared.data.Op.{Op}
 use Rattle.rt_base.specs.declared.data.TaskDef.{TaskDef}
 use Rattle.rt_base.specs.declared.data.Program.{Program}
 use Rattle.rt_base.specs.declared.data.Entry.{Entry}
+use Rattle.rt_base.specs.declared.data.Status.{Status}
+use Rattle.rt_base.specs.declared.data.ReqNo.{ReqNo}
 use Rattle.rt_base.specs.State.{Task, is_released}
 use Rattle.rt_base.specs.MayMove.{MayMove}
 use Rattle.task_local.specs.Local.{advanced, stop, run_front}
 use Rattle.task_local.specs.Standing.{phase_before, def_of, no_task}
 use Rattle.task_local.specs.StandsFor.{Record, StandsFor, StandsAs}
 use Rattle.task_machine.specs.Legal.{final}
-use Rattle.task_machine.specs.Course.{moves_left}
+use Rattle.task_machine.specs.Machine.{move}
 use Rattle.task_machine.proofs.Items.{same_some}
 use Rattle.task_machine.proofs.Stops.{drop_end, stop_ended, stop_begins, stop_held}
 use Rattle.core_book.specs.Ledger.{Ledger}
-use Rattle.core_book.specs.Kept.{Shelf, KeepsState, entries_left, postings_left, state_now, to_tell}
-use Rattle.core_book.proofs.Rooms.{few_told_at_first, over_one, room_for}
-use Rattle.core_book.proofs.Moved.{ledger_of, phase_read}
+use Rattle.run_bounds.proofs.Rooms.{bounds_few}
+use Rattle.core_book.specs.Kept.{Shelf, KeepsState, state_now}
+use Rattle.core_book.proofs.Moved.{ledger_of, phase_read, fits_now, short_after}
 
 -- the caller's program is the book's
 pub same_program : (shelf : Shelf) (l : Ledger) (prog : Program) → ledger_of shelf ≡ l → prog ≡ l.program → prog ≡ shelf.program
@@ -96,37 +98,35 @@ pub handed_of : (shelf : Shelf) (held : Record) (t : ℕ) (def : TaskDef) (at q 
     → slice_get shelf.ready.handed t ≡ Some true
 handed_of shelf held t def at q k h is started = k.begun t q (read_at shelf held t def at q k h is) started
 
--- a task that may still move has room for its entry
-pub room_at : (shelf : Shelf) (held : Record) (t : ℕ) (def : TaskDef) (at q : Phase) → KeepsState shelf → (h : Held shelf held t def at) → h.was.phase ≡ q
-    → 0 < moves_left (length def.body.items) q → length shelf.entries < shelf.entry_places
-room_at shelf held t def at q k h is some =
-    let room = room_for entries_left shelf.program.tasks.items shelf.phases t def q _ _ k.rooms.entries h.is_def (read_at shelf held t def at q k h is) in
-    omega arith
+-- a task that may move has room for its entry
+pub entry_room : (shelf : Shelf) (t : ℕ) → KeepsState shelf → MayMove shelf.program (state_now shelf) t → length shelf.entries < shelf.entry_places
+entry_room shelf t k may = omega (arith, (short_after shelf t k may).entries, k.places.entries)
 
--- a task that has something to tell has room for it
-pub told_room : (shelf : Shelf) (held : Record) (t : ℕ) (def : TaskDef) (at q : Phase) → KeepsState shelf → (h : Held shelf held t def at) → h.was.phase ≡ q
-    → length shelf.statuses + to_tell def q ≤ shelf.status_places
-told_room shelf held t def at q k h is =
-    room_for to_tell shelf.program.tasks.items shelf.phases t def q _ _ k.rooms.statuses h.is_def (read_at shelf held t def at q k h is)
+-- and for what its move tells, which is counted in 32 bits
+pub told_room : (shelf : Shelf) (t : ℕ) (more : List Status) → KeepsState shelf → MayMove shelf.program (state_now shelf) t
+    → (move shelf.program (state_now shelf) t).state.statuses ≡ (state_now shelf).statuses ++ more
+    → length shelf.statuses + length more ≤ shelf.status_places
+told_room shelf t more k may told =
+    let long = ap (λ (z : List Status). length z) told ∙ length-append (state_now shelf).statuses more in
+    let own = ap (λ (z : List Status). length z) k.legal.told in
+    omega (arith, (short_after shelf t k may).statuses, k.places.statuses)
 
--- and so much is counted in 32 bits
-pub told_count : (shelf : Shelf) (held : Record) (t : ℕ) (def : TaskDef) (at q : Phase) → KeepsState shelf → (h : Held shelf held t def at)
-    → h.was.phase ≡ q → length shelf.statuses + to_tell def q ≤ 1310720
-told_count shelf held t def at q k h is =
-    let few = few_told_at_first shelf.program k.well in
-    let whole = k.rooms.statuses.few in
-    let one = over_one to_tell shelf.program.tasks.items shelf.phases t def q h.is_def (read_at shelf held t def at q k h is) in
-    omega arith
+pub told_count : (shelf : Shelf) (t : ℕ) (more : List Status) → KeepsState shelf → MayMove shelf.program (state_now shelf) t
+    → (move shelf.program (state_now shelf) t).state.statuses ≡ (state_now shelf).statuses ++ more → length shelf.statuses + length more < 2 ^ 32
+told_count shelf t more k may told =
+    let long = ap (λ (z : List Status). length z) told ∙ length-append (state_now shelf).statuses more in
+    let own = ap (λ (z : List Status). length z) k.legal.told in
+    omega (arith, (short_after shelf t k may).statuses, (bounds_few shelf.program k.well).1)
 
--- a task that has something to post has room for a notice
-pub notice_room : (shelf : Shelf) (held : Record) (t : ℕ) (def : TaskDef) (at q : Phase) → KeepsState shelf → (h : Held shelf held t def at)
-    → h.was.phase ≡ q → length shelf.notices + postings_left def q ≤ shelf.notice_places
-notice_room shelf held t def at q k h is =
-    room_for postings_left shelf.program.tasks.items shelf.phases t def q _ _ k.rooms.notices h.is_def (read_at shelf held t def at q k h is)
+-- there is room for the notices after a move
+pub notice_room : (shelf : Shelf) (t : ℕ) (notices : List ReqNo) → KeepsState shelf → MayMove shelf.program (state_now shelf) t
+    → notices ≡ (move shelf.program (state_now shelf) t).state.notices → length notices ≤ shelf.notice_places
+notice_room shelf t notices k may are =
+    omega (arith, ap (λ (z : List ReqNo). length z) are, (short_after shelf t k may).notices, k.places.notices)
 
 pub phases_counted : (shelf : Shelf) → KeepsState shelf → length shelf.phases ≡ length shelf.program.tasks.items
 phases_counted shelf k =
-    ap (λ (z : List Phase). length z) k.phases_are ∙ length-map (state_now shelf).tasks (λ (z : Task). z.phase) ∙ k.fits.counted
+    ap (λ (z : List Phase). length z) k.phases_are ∙ length-map (state_now shelf).tasks (λ (z : Task). z.phase) ∙ (fits_now shelf k).counted
 
 pub place_within : (shelf : Shelf) (held : Record) (t : ℕ) (def : TaskDef) (at : Phase) → KeepsState shelf → Held shelf held t def at → t < length shelf.phases
 place_within shelf held t def at k h = slice_get_within shelf.phases t h.was.phase (phase_read shelf t h.was k h.is_task)

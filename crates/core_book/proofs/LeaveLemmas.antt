@@ -6,10 +6,6 @@ use Rattle.std.proofs.lemmas.List.{length-take}
 use Rattle.std.proofs.lemmas.Option.{slice_get_within, same_Some}
 use Rattle.rt_base.specs.declared.data.ReqNo.{ReqNo}
 use Rattle.rt_base.specs.declared.data.Span.{Span}
-use Rattle.rt_base.specs.declared.data.Peer.{Peer}
-use Rattle.rt_base.specs.declared.data.TagSel.{TagSel}
-use Rattle.rt_base.specs.declared.data.How.{How}
-use Rattle.rt_base.specs.declared.data.How.TheVariants as how
 use Rattle.rt_base.specs.declared.data.Op.{Op}
 use Rattle.rt_base.specs.declared.data.Op.TheVariants as op
 use Rattle.rt_base.specs.declared.data.Phase.{Phase}
@@ -30,21 +26,21 @@ use Rattle.task_local.specs.Regions.{put}
 use Rattle.task_local.specs.Local.{advanced, stop}
 use Rattle.task_local.specs.Waits.{taken, told, put_statuses, put_at_posting}
 use Rattle.task_local.specs.StandsFor.{Record, StandsFor, StandsAs}
-use Rattle.task_machine.specs.Machine.{leave_move}
+use Rattle.task_machine.specs.Machine.{Moved, move, leave_move}
 use Rattle.core_book.specs.declared.posting.Posting.{Posting}
 use Rattle.task_local.specs.Standing.{def_of, phase_before, GoesTo}
 use Rattle.task_machine.specs.Legal.{final}
 use Rattle.task_machine.specs.Laws.{is_blocking_call}
 use Rattle.core_book.specs.Ledger.{Ledger, record_at}
-use Rattle.core_book.specs.Kept.{Shelf, IsInBlocking, KeepsState, PostsAs, state_now, tells_now, told_now}
-use Rattle.core_book.proofs.After.{Changes}
-use Rattle.core_book.proofs.Changes.{leave_changes}
-use Rattle.core_book.proofs.Questions.{awaited_is}
-use Rattle.core_book.proofs.Moved.{IsMoved, gone_kept, ledger_of}
-use Rattle.core_book.proofs.Opened.{opened-row}
-use Rattle.core_book.proofs.Tells.{blocking_there, tell_next}
+use Rattle.run_bounds.specs.Fits.{IsPlaced}
+use Rattle.run_bounds.proofs.Tells.{blocking_there}
+use Rattle.task_machine.proofs.Rows.{move-row}
+use Rattle.core_book.specs.Kept.{Shelf, KeepsState, PostsAs, state_now, told_now}
+use Rattle.book_counts.proofs.Awaiting.{awaited_is}
+use Rattle.core_book.proofs.Moved.{IsMoved, fits_now, gone_kept, ledger_of, opened-row}
 use Rattle.core_book.proofs.Held.{Held, held_at, handed_of, stands_before, stop_is_held, may_move, told_room}
-use Rattle.core_book.proofs.CallLemmas.{posting_found, posting_is, operation_is}
+use Rattle.run_bounds.proofs.Operations.{posting_found, posting_is, operation_is}
+use Rattle.run_bounds.proofs.Operations.{HasStatus, has_status, span_declared}
 
 -- a task that is in an operation, as its record and the machine's state have it
 pub record Within (shelf : Shelf) (held : Record) (t k : ℕ) (def : TaskDef) : Type 0 where
@@ -54,7 +50,7 @@ pub record Within (shelf : Shelf) (held : Record) (t k : ℕ) (def : TaskDef) : 
 
 pub is_blocked : (shelf : Shelf) (held : Record) (t k : ℕ) (def : TaskDef) → KeepsState shelf → Held shelf held t def (phase.In k)
     → is_blocking_call (slice_get def.body.items k) ≡ true
-is_blocked shelf held t k def kept here = subst (IsInBlocking def) here.stands.0 (kept.fits.blocking t def here.was here.is_def here.is_task)
+is_blocked shelf held t k def kept here = subst (IsPlaced def) here.stands.0 ((fits_now shelf kept).placed t def here.was here.is_def here.is_task)
 
 pub is_within : (shelf : Shelf) (held : Record) (t k : ℕ) (def : TaskDef) (l : Ledger) (prog : Program) → KeepsState shelf → ledger_of shelf ≡ l
     → prog ≡ l.program → StandsFor prog held (final prog l.history) → MayMove prog (final prog l.history) held.task → t ≡ held.task
@@ -155,43 +151,6 @@ posting_allowed shelf held t k def posting kept i =
     (operation_is shelf.program t k def (op.Post posting.how posting.span i.posts.peer i.posts.tag i.posts.comm posting.status) kept.well i.in_it.here.is_def
     i.posts.is).0
 
-span_declared : (p : Program) (def : TaskDef) (kind : How) (span : Span) (whom : Peer) (selected : TagSel) (status : Option Span)
-    → IsPostingOf p def kind span whom selected status → IsDeclared def.accesses.items span
-span_declared p def how.Send span whom selected None allowed = allowed.0.declared
-span_declared p def how.Send span whom selected (Some cells) allowed = absurd allowed
-span_declared p def how.Ssend span whom selected None allowed = allowed.0.declared
-span_declared p def how.Ssend span whom selected (Some cells) allowed = absurd allowed
-span_declared p def how.Recv span whom selected status allowed = allowed.0.declared
-span_declared p def how.Isend span whom selected None allowed = allowed.0.declared
-span_declared p def how.Isend span whom selected (Some cells) allowed = absurd allowed
-span_declared p def how.Issend span whom selected None allowed = allowed.0.declared
-span_declared p def how.Issend span whom selected (Some cells) allowed = absurd allowed
-span_declared p def how.Irecv span whom selected None allowed = allowed.declared
-span_declared p def how.Irecv span whom selected (Some cells) allowed = absurd allowed
-
--- a status span stands only at a receive, is declared and has four cells
-record HasStatus (def : TaskDef) (kind : How) (status : Option Span) : Type 0 where
-  receive : IsSome status → is_receive kind ≡ true
-  declared : IfSome status (λ (span : Span). IsDeclared def.accesses.items span × (span_len span ≡ 4))
-
-no_status : (def : TaskDef) (kind : How) → HasStatus def kind None
-no_status def kind = record { receive = λ some. absurd (cc); declared = tt }
-
-has_status : (p : Program) (def : TaskDef) (kind : How) (span : Span) (whom : Peer) (selected : TagSel) (status : Option Span)
-    → IsPostingOf p def kind span whom selected status → HasStatus def kind status
-has_status p def how.Send span whom selected None allowed = no_status def how.Send
-has_status p def how.Send span whom selected (Some cells) allowed = absurd allowed
-has_status p def how.Ssend span whom selected None allowed = no_status def how.Ssend
-has_status p def how.Ssend span whom selected (Some cells) allowed = absurd allowed
-has_status p def how.Recv span whom selected None allowed = no_status def how.Recv
-has_status p def how.Recv span whom selected (Some cells) allowed = record { receive = λ some. refl; declared = (allowed.1.0.declared, allowed.1.1) }
-has_status p def how.Isend span whom selected None allowed = no_status def how.Isend
-has_status p def how.Isend span whom selected (Some cells) allowed = absurd allowed
-has_status p def how.Issend span whom selected None allowed = no_status def how.Issend
-has_status p def how.Issend span whom selected (Some cells) allowed = absurd allowed
-has_status p def how.Irecv span whom selected None allowed = no_status def how.Irecv
-has_status p def how.Irecv span whom selected (Some cells) allowed = absurd allowed
-
 -- what a store asks of the posting's span
 pub stores : (shelf : Shelf) (held : Record) (t k : ℕ) (def : TaskDef) (posting : Posting) → KeepsState shelf → Inside shelf held t k def posting
     → IsDeclared (def_of held.program held.task).accesses.items posting.span
@@ -220,16 +179,6 @@ pub status_declared : (shelf : Shelf) (held stored : Record) (t k : ℕ) (def : 
 status_declared shelf held stored t k def posting copy kept i went =
     subst (λ (d : TaskDef). IfSome posting.status (λ (span : Span). IsDeclared d.accesses.items span × (span_len span ≡ 4)))
     (sym (stored_def held stored def copy i.in_it.here.held_def went)) (own_status shelf held t k def posting kept i).declared
-
--- there is room for the status of a posting
-pub status_room : (shelf : Shelf) (held : Record) (t k : ℕ) (def : TaskDef) (posting : Posting) → KeepsState shelf → Inside shelf held t k def posting
-    → length shelf.statuses < shelf.status_places
-status_room shelf held t k def posting kept i =
-    let room = told_room shelf held t def (phase.In k) (phase.In k) kept i.in_it.here i.in_it.here.stands.0 in
-    let x : Op = op.Post posting.how posting.span i.posts.peer i.posts.tag i.posts.comm posting.status in
-    let next = tell_next def k x i.posts.is in
-    let one : tells_now x ≡ 1 = refl in
-    omega arith
 
 in_waits : (stands : Phase) (k : ℕ) → stands ≡ phase.In k → stands ≡ phase.Waiting → ⊥
 in_waits stands k is waiting = cc
@@ -308,12 +257,17 @@ left_task shelf t k def was = record was {
   copy = advanced def (k + 1) (taken shelf.program (state_now shelf).exchange t def k was.copy);
 }
 
-pub leave_changed : (shelf : Shelf) (held : Record) (t k : ℕ) (def : TaskDef) → KeepsState shelf → (i : Within shelf held t k def)
-    → Changes shelf.program (state_now shelf) t def i.here.was (left_task shelf t k def i.here.was)
-    (leave_move shelf.program (state_now shelf) t def i.here.was k).state
-    (leave_move shelf.program (state_now shelf) t def i.here.was k).entry
-leave_changed shelf held t k def kept i =
-    leave_changes shelf.program (state_now shelf) t def i.here.was k i.here.is_def i.here.is_task i.here.stands.0 i.may kept.fits
+-- the move
+pub leave_made : (shelf : Shelf) (held : Record) (t k : ℕ) (def : TaskDef) → (i : Within shelf held t k def)
+    → move shelf.program (state_now shelf) t ≡ leave_move shelf.program (state_now shelf) t def i.here.was k
+leave_made shelf held t k def i = move-row shelf.program (state_now shelf) t def i.here.was (phase.In k) i.here.is_def i.here.is_task i.here.stands.0
+
+-- there is room for what it tells, which is counted in 32 bits
+pub leave_room : (shelf : Shelf) (held : Record) (t k : ℕ) (def : TaskDef) (more : List Status) → KeepsState shelf → Within shelf held t k def
+    → more ≡ told shelf.program (state_now shelf).exchange t def k → length shelf.statuses + length more ≤ shelf.status_places
+leave_room shelf held t k def more kept i is =
+    told_room shelf t more kept i.may
+    (ap (λ (z : Moved). z.state.statuses) (leave_made shelf held t k def i) ∙ ap (λ (z : List Status). (state_now shelf).statuses ++ z) (sym is))
 
 -- the insides after a leave
 abbrev pub shelf_left : Shelf → ℕ → Phase → List Status → List Entry → List ReqNo → ℕ → ℕ → ℕ → Shelf
@@ -332,13 +286,16 @@ pub leave_moved : (shelf : Shelf) (held : Record) (t k from count : ℕ) (def : 
     (entry_places status_places opened_places : ℕ) → KeepsState shelf → (i : Within shelf held t k def) → Leaves shelf statuses entries t k from count tells
     → tells ≡ told shelf.program (state_now shelf).exchange t def k
     → next ≡ stop def (k + 1) → listed ≡ [] → shelf.entry_places ≤ entry_places → shelf.status_places ≤ status_places → shelf.opened_places ≤ opened_places
-    → IsMoved shelf (shelf_left shelf t next statuses entries listed entry_places status_places opened_places) t (left_task shelf t k def i.here.was)
-    (leave_move shelf.program (state_now shelf) t def i.here.was k).state
-    (leave_move shelf.program (state_now shelf) t def i.here.was k).entry
+    → IsMoved shelf (shelf_left shelf t next statuses entries listed entry_places status_places opened_places) t i.here.was
+    (left_task shelf t k def i.here.was) (leave_move shelf.program (state_now shelf) t def i.here.was k)
 leave_moved shelf held t k from count def tells next statuses entries listed entry_places status_places opened_places kept i leaves same stops none more
     more' more'' =
     let s : State = state_now shelf in
     record {
+      may = i.may;
+      moved = leave_made shelf held t k def i;
+      is_task = i.here.is_task;
+      tasks = refl;
       program = refl;
       workers = refl;
       handed = handed_of shelf held t def (phase.In k) (phase.In k) kept i.here i.here.stands.0 (λ e. absurd (cc e));
@@ -350,14 +307,12 @@ leave_moved shelf held t k from count def tells next statuses entries listed ent
       exchange = kept.exchange_is;
       phases = ap (slice_set shelf.phases t) stops;
       memory = kept.memory_is;
+      cells = refl;
       notices = kept.notices_are;
       entries = entry_is s shelf.entries entries shelf.statuses t k from count _ _ kept.legal.told leaves.from_is leaves.count_is same leaves.entries_are;
       statuses = leaves.statuses_are ∙ ap (λ (z : List Status). z ++ tells) kept.legal.told ∙ ap (λ (z : List Status). s.statuses ++ z) same;
       opened = none ∙ sym (opened-row shelf.program s t def i.here.was (phase.In k) i.here.is_def i.here.is_task i.here.stands.0);
-      entry_places = more;
-      status_places = more';
-      notice_places = omega arith;
-      opened_places = more'';
+      places = record { entries = more; statuses = more'; notices = omega arith; opened = more'' };
     }
 
 -- the copy after both stores

@@ -7,10 +7,11 @@ use Rattle.region_deps.specs.Readiness.{Readiness}
 use Rattle.wait_steps.specs.MarkedRows.{unmarked}
 use Rattle.core_book.specs.Ledger.{bound_in}
 use Rattle.core_book.specs.Kept.{Shelf, IsBook, state_now}
-use Rattle.core_book.proofs.BindingMoves.{binding_first, nothing_bound}
+use Rattle.core_book.proofs.BindingMoves.{nothing_bound}
+use Rattle.book_counts.proofs.Bindings.{binding_first}
 use Rattle.core_book.proofs.BookLemmas.{IsNew, new_book}
-use Rattle.core_book.proofs.CountLemmas.{counted_first}
-use Rattle.core_book.proofs.Numbers.{numbered_first}
+use Rattle.book_counts.proofs.CountLemmas.{counted_first}
+use Rattle.book_counts.proofs.Numbers.{numbered_first}
 
 -- the insides are new, and so are the numbers and marks
 pub record IsFresh (shelf : Shelf) : Type 0 where

@@ -2,7 +2,6 @@
 use Rattle.std.proofs.Common.{◌≡◌, ℕ, ◌+◌, ◌-◌, ◌<◌, ◌≤◌, ◌↔◌, ◌==◌, Bool, true, false, not, List, [], ◌∷◌, ◌++◌, length, IsTrue}
 use Rattle.std.proofs.Common.{refl, sym, ap, ◌∙◌, subst, inr, arith}
 use Rattle.std.proofs.lemmas.Bool.Decides.{nat_tests}
-use Rattle.std.proofs.lemmas.List.{length-append}
 use Rattle.rt_base.specs.declared.data.ReqNo.{ReqNo}
 use Rattle.rt_base.specs.declared.data.Status.{Status}
 use Rattle.rt_base.specs.declared.data.Entry.{Entry}
@@ -16,9 +15,10 @@ use Rattle.task_machine.proofs.Fronts.{past}
 use Rattle.task_machine.proofs.Opened.{last_opened-poll}
 use Rattle.task_machine.proofs.Runs.{IsDefined-push, callers-push, entries_after-push, state_after-push}
 use Rattle.core_book.specs.Ledger.{Ledger, TakesNotice, bound_in}
-use Rattle.core_book.specs.Kept.{Shelf, FitsProgram, HasRooms, IsBinding, IsBook, IsCounted, KeepsState, state_now}
-use Rattle.core_book.proofs.Moved.{ledger_of}
-use Rattle.core_book.proofs.Rooms.{few_entries_at_first}
+use Rattle.run_bounds.proofs.Rooms.{bounds_few}
+use Rattle.core_book.specs.Kept.{Shelf, IsBook, KeepsState, state_now}
+use Rattle.book_counts.specs.Counted.{IsBinding, IsCounted}
+use Rattle.core_book.proofs.Moved.{ledger_of, short_now}
 
 -- a poller's step is a poll
 back : (n w : ℕ) → (n + w) - n ≡ w
@@ -103,21 +103,12 @@ polled_state shelf w req rest entries places places' d =
     ap (final shelf.program) d.grown
     ∙ final-poll shelf.program shelf.entries w req rest (first_notice shelf w req rest entries places places' d)
 
--- an entry more and a notice less
-rooms_polled : (shelf : Shelf) (w : ℕ) (req : ReqNo) (rest : List ReqNo) (entries : List Entry) (places places' : ℕ)
-    → Polls shelf w req rest entries places places' → HasRooms (shelf_polled shelf rest entries places places')
-rooms_polled shelf w req rest entries places places' d =
-    let more = ap (λ (z : List Entry). length z) d.grown ∙ length-append shelf.entries (entry.Poll w req ∷ []) in
-    let less = ap (λ (z : List ReqNo). length z) d.first in
-    let rooms = d.kept.rooms in
-    let entry_places = d.entry_places in
-    let notice_places = d.notice_places in
-    record {
-      entries = record { few = omega (arith, rooms.entries.few, more, less); enough = omega (arith, rooms.entries.enough, more, less, entry_places) };
-      statuses = rooms.statuses;
-      notices = record { few = omega (arith, rooms.notices.few, less); enough = omega (arith, rooms.notices.enough, less, notice_places) };
-      opened = rooms.opened;
-    }
+-- there is room for its entry
+pub poll_room : (shelf : Shelf) (req : ReqNo) (rest : List ReqNo) → KeepsState shelf → shelf.notices ≡ req ∷ rest
+    → length shelf.entries < shelf.entry_places
+poll_room shelf req rest k first =
+    let notices = ap (λ (z : List ReqNo). length z) (sym k.notices_are ∙ first) in
+    omega (arith, (short_now shelf k).entries, k.places.entries)
 
 -- the insides after a poll are the state after it
 pub kept_polled : (shelf : Shelf) (w : ℕ) (req : ReqNo) (rest : List ReqNo) (entries : List Entry) (places places' : ℕ)
@@ -131,23 +122,23 @@ kept_polled shelf w req rest entries places places' d =
       well = k.well;
       legal = subst (λ (z : List Entry). IsLegal p shelf.workers z shelf.statuses) (sym d.grown)
           (legal-poll p shelf.workers shelf.entries shelf.statuses w req rest k.legal d.exists first);
+      cells = k.cells;
       memory_is = k.memory_is ∙ ap (λ (z : State). z.memory) (sym end);
       phases_are = k.phases_are ∙ ap (λ (z : State). phases_of z.tasks) (sym end);
       exchange_is = k.exchange_is ∙ ap (λ (z : State). z.exchange) (sym end);
       notices_are = ap (λ (z : State). z.notices) (sym end);
       opened_are = k.opened_are ∙ sym (last_opened-poll p shelf.entries w req) ∙ ap (last_opened p) (sym d.grown);
       gone_is = k.gone_is ∙ ap (λ (z : State). let_go z.tasks) (sym end);
-      fits = subst (FitsProgram p) (sym end) (record {
-        counted = k.fits.counted;
-        cells = k.fits.cells;
-        blocking = k.fits.blocking;
-        posted = k.fits.posted;
-      });
       begun = k.begun;
       of_program = k.of_program;
       whole = k.whole;
       engine_of = k.engine_of;
-      rooms = rooms_polled shelf w req rest entries places places' d;
+      places = record {
+        entries = omega (arith, k.places.entries, d.entry_places);
+        statuses = k.places.statuses;
+        notices = omega (arith, k.places.notices, d.notice_places);
+        opened = k.places.opened;
+      };
     }
 
 -- a poll changes nothing that a book counts
@@ -172,8 +163,7 @@ takes_notice shelf w req rest entries places places' l d view =
     let first = first_notice shelf w req rest entries places places' d in
     let end : final p entries ≡ without_first (state_now shelf) rest = polled_state shelf w req rest entries places places' d in
     let after = shelf_polled shelf rest entries places places' in
-    let few = few_entries_at_first p d.kept.well in
-    let room = (rooms_polled shelf w req rest entries places places' d).entries.few in
+    let kept = kept_polled shelf w req rest entries places places' d in
     subst (λ (z : Ledger). TakesNotice z (ledger_of after) w req) view (record {
       entry = d.grown;
       first = first ∙ ap (λ (s : State). req ∷ s.notices) (sym end);
@@ -182,7 +172,7 @@ takes_notice shelf w req rest entries places places' l d view =
       workers = refl;
       statuses = refl;
       handed = refl;
-      short = omega arith;
+      short = omega (arith, (short_now after kept).entries, (bounds_few p d.kept.well).0);
     })
 
 -- whether a notice stands

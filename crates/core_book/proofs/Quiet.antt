@@ -18,12 +18,13 @@ use Rattle.rt_base.specs.State.{Task, let_go}
 use Rattle.region_deps.specs.Readiness.{IsStartable}
 use Rattle.task_machine.specs.Legal.{final, IsQuiet}
 use Rattle.core_book.specs.Ledger.{Ledger, bound_in}
-use Rattle.core_book.specs.Kept.{Shelf, KeepsState, IsBook, state_now, is_zero, waits_at}
+use Rattle.core_book.specs.Kept.{Shelf, KeepsState, IsBook, state_now}
+use Rattle.book_counts.specs.Counted.{is_zero, waits_at}
 use Rattle.core_book.proofs.Moved.{ledger_of, phase_read}
 use Rattle.core_book.proofs.Held.{same_program, phases_counted}
 use Rattle.core_book.proofs.Questions.{standing, gone_of, can_move_answer}
 use Rattle.core_book.proofs.BoundAfter.{bound_at_task}
-use Rattle.core_book.proofs.CountLemmas.{waits_for_none, zero_counts, count_no_zero}
+use Rattle.book_counts.proofs.CountLemmas.{waits_for_none, zero_counts, count_no_zero}
 
 pub either_waits : (at : Phase) → (at ≡ phase.Waiting) ⊎ (at ≢ phase.Waiting)
 either_waits phase.Waiting = inl refl

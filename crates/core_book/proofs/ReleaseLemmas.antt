@@ -28,15 +28,16 @@ use Rattle.task_local.specs.Regions.{saved}
 use Rattle.task_local.specs.Waits.{handles_of, taken_at_release, told_at_release}
 use Rattle.task_local.specs.Standing.{def_of}
 use Rattle.task_local.specs.StandsFor.{Record, StandsFor, StandsAs}
-use Rattle.task_machine.specs.Machine.{release_move}
+use Rattle.task_machine.specs.Machine.{Moved, move, release_move}
 use Rattle.task_machine.specs.Legal.{final}
 use Rattle.tidy_runs.specs.Tidy.{called, bindings}
 use Rattle.core_book.specs.Ledger.{Ledger, record_at, named_in}
-use Rattle.core_book.specs.Kept.{Shelf, AreReceived, KeepsState, state_now, tells_late}
-use Rattle.core_book.proofs.After.{Changes}
-use Rattle.core_book.proofs.LateChanges.{release_changes, released_task, told_late}
-use Rattle.core_book.proofs.Moved.{IsMoved, ledger_of}
-use Rattle.core_book.proofs.Opened.{opened-row}
+use Rattle.core_book.specs.Kept.{Shelf, KeepsState, state_now}
+use Rattle.wait_steps.specs.Received.{AreReceived}
+use Rattle.task_machine.proofs.Rows.{move-row}
+use Rattle.run_bounds.specs.Bounds.{tells_late}
+use Rattle.run_bounds.proofs.Changes.{told_late}
+use Rattle.core_book.proofs.Moved.{IsMoved, ledger_of, opened-row}
 use Rattle.core_book.proofs.Held.{Held, held_at, handed_of, may_move, told_count, told_room}
 use Rattle.core_book.proofs.TidyBook.{tidy_now}
 
@@ -107,10 +108,32 @@ late_received shelf held t u def kept r who =
     (subst (λ (q : Program). AreReceived q shelf.engine.exchange t def) (sym kept.engine_of)
     (subst (λ (e : Exchange). AreReceived shelf.program e t def) (sym kept.exchange_is) (late_complete shelf held t def kept r)))
 
+-- the task after its release
+abbrev pub released_task : Program → Exchange → ℕ → TaskDef → Task → Task
+released_task p e t def was = record was { phase = phase.Released; copy = taken_at_release p e t def was.named was.copy }
+
+-- the move
+pub release_made : (shelf : Shelf) (held : Record) (t : ℕ) (def : TaskDef) → (r : Releases shelf held t def)
+    → move shelf.program (state_now shelf) t ≡ release_move shelf.program (state_now shelf) t def r.here.was
+release_made shelf held t def r =
+    move-row shelf.program (state_now shelf) t def r.here.was phase.Returned r.here.is_def r.here.is_task r.here.stands.0
+
+release_tells : (shelf : Shelf) (held : Record) (t : ℕ) (def : TaskDef) → (r : Releases shelf held t def)
+    → (move shelf.program (state_now shelf) t).state.statuses
+    ≡ (state_now shelf).statuses ++ told_at_release shelf.program (state_now shelf).exchange t def (bindings 0 def.body.items)
+release_tells shelf held t def r =
+    ap (λ (z : Moved). z.state.statuses) (release_made shelf held t def r)
+    ∙ ap (λ (ks : List ℕ). (state_now shelf).statuses ++ told_at_release shelf.program (state_now shelf).exchange t def ks) r.named
+
 -- there is room for its statuses, and they are counted in 32 bits
 pub late_told_room : (shelf : Shelf) (held : Record) (t : ℕ) (def : TaskDef) → KeepsState shelf → (r : Releases shelf held t def)
     → length shelf.statuses + sum_by tells_late def.body.items ≤ shelf.status_places
-late_told_room shelf held t def kept r = told_room shelf held t def phase.Returned phase.Returned kept r.here r.here.stands.0
+late_told_room shelf held t def kept r =
+    omega (
+      arith,
+      told_room shelf t _ kept r.may (release_tells shelf held t def r),
+      told_late shelf.program (state_now shelf).exchange t 0 def def.body.items refl,
+    )
 
 long_by : (p : Program) (e : Exchange) (t : ℕ) (def : TaskDef) (statuses new : List Status)
     → new ≡ statuses ++ told_at_release p e t def (bindings 0 def.body.items) → length new ≡ length statuses + sum_by tells_late def.body.items
@@ -123,8 +146,8 @@ pub late_count : (shelf : Shelf) (held : Record) (t u : ℕ) (def : TaskDef) (ne
     → (length shelf.statuses ≤ length new) × (length new < 2 ^ 32)
 late_count shelf held t u def new kept r told =
     let long = long_by shelf.engine.program shelf.engine.exchange u def shelf.statuses new told in
-    let few : length shelf.statuses + sum_by tells_late def.body.items ≤ 1310720 =
-    told_count shelf held t def phase.Returned phase.Returned kept r.here r.here.stands.0 in
+    let few = told_count shelf t _ kept r.may (release_tells shelf held t def r) in
+    let same = told_late shelf.program (state_now shelf).exchange t 0 def def.body.items refl in
     (omega arith, omega arith)
 
 -- what is stored and told, in the state's own terms
@@ -205,17 +228,6 @@ saved_now shelf held stored t def prog before after kept r went same seen put =
     ∙ ap (λ (z : Record). saved p (def_of z.program z.task) z.copy before) went
     ∙ ap (λ (d : TaskDef). saved p d copy before) r.here.held_def ∙ ap (saved p def copy) (seen ∙ kept.memory_is)
 
-pub release_changed : (shelf : Shelf) (held : Record) (t : ℕ) (def : TaskDef) (after : List ℤ) → KeepsState shelf → (r : Releases shelf held t def)
-    → after ≡ saved shelf.program def (taken_at_release shelf.program (state_now shelf).exchange t def r.here.was.named r.here.was.copy)
-    (state_now shelf).memory
-    → length after ≡ length shelf.memory
-    → Changes shelf.program (state_now shelf) t def r.here.was (released_task shelf.program (state_now shelf).exchange t def r.here.was)
-    (release_move shelf.program (state_now shelf) t def r.here.was).state
-    (release_move shelf.program (state_now shelf) t def r.here.was).entry
-release_changed shelf held t def after kept r put long =
-    release_changes shelf.program (state_now shelf) t def r.here.was r.here.is_def r.here.is_task r.here.stands.0 r.may kept.fits r.named
-    (ap (λ (z : List ℤ). length z) (sym put) ∙ long ∙ ap (λ (z : List ℤ). length z) kept.memory_is ∙ kept.fits.cells)
-
 -- the insides after a release
 abbrev pub shelf_released : Shelf → ℕ → Readiness → List ℤ → List Status → List Entry → ℕ → List ℕ → List ReqNo → ℕ → ℕ → ℕ → Shelf
 shelf_released shelf t ready after statuses entries unreleased waits found entry_places status_places opened_places = record shelf {
@@ -235,6 +247,7 @@ shelf_released shelf t ready after statuses entries unreleased waits found entry
 -- the calls of a release, by what they answer
 pub record LetsGo (shelf : Shelf) (t : ℕ) (def : TaskDef) (was : Task) (ready : Readiness) (after : List ℤ) (statuses : List Status) (entries : List Entry)
     (from count : ℕ) (found : List ReqNo) : Type 0 where
+  pub long : length after ≡ length shelf.memory
   pub put : after ≡ saved shelf.program def (taken_at_release shelf.program (state_now shelf).exchange t def was.named was.copy) (state_now shelf).memory
   pub of_program : ready.program ≡ shelf.ready.program
   pub marks : ready.handed ≡ shelf.ready.handed
@@ -259,15 +272,18 @@ pub release_moved : (shelf : Shelf) (held : Record) (t from count unreleased : �
     (statuses : List Status) (entries : List Entry) (waits : List ℕ) (found : List ReqNo) (entry_places status_places opened_places : ℕ)
     → KeepsState shelf → (r : Releases shelf held t def) → LetsGo shelf t def r.here.was ready after statuses entries from count found
     → shelf.entry_places ≤ entry_places → shelf.status_places ≤ status_places → shelf.opened_places ≤ opened_places
-    → IsMoved shelf (shelf_released shelf t ready after statuses entries unreleased waits found entry_places status_places opened_places) t
+    → IsMoved shelf (shelf_released shelf t ready after statuses entries unreleased waits found entry_places status_places opened_places) t r.here.was
     (released_task shelf.program (state_now shelf).exchange t def r.here.was)
-    (release_move shelf.program (state_now shelf) t def r.here.was).state
-    (release_move shelf.program (state_now shelf) t def r.here.was).entry
+    (release_move shelf.program (state_now shelf) t def r.here.was)
 release_moved shelf held t from count unreleased def ready after statuses entries waits found entry_places status_places opened_places kept r goes more
     more' more'' =
     let s : State = state_now shelf in
     let now : Task = released_task shelf.program s.exchange t def r.here.was in
     record {
+      may = r.may;
+      moved = release_made shelf held t def r;
+      is_task = r.here.is_task;
+      tasks = refl;
       program = refl;
       workers = refl;
       handed = handed_of shelf held t def phase.Returned phase.Returned kept r.here r.here.stands.0 (λ e. absurd (cc e));
@@ -281,14 +297,12 @@ release_moved shelf held t from count unreleased def ready after statuses entrie
       exchange = kept.exchange_is;
       phases = refl;
       memory = goes.put;
+      cells = goes.long;
       notices = kept.notices_are;
       entries = entry_is s shelf.entries entries shelf.statuses statuses _ t from count kept.legal.told goes.told goes.from_is goes.count_is goes.grown;
       statuses = goes.told ∙ ap (λ (z : List Status). z ++ told_at_release shelf.program s.exchange t def r.here.was.named) kept.legal.told;
       opened = goes.none ∙ sym (opened-row shelf.program s t def r.here.was phase.Returned r.here.is_def r.here.is_task r.here.stands.0);
-      entry_places = more;
-      status_places = more';
-      notice_places = omega arith;
-      opened_places = more'';
+      places = record { entries = more; statuses = more'; notices = omega arith; opened = more'' };
     }
 
 -- a list that was lent whole comes back whole

@@ -1,5 +1,5 @@
 -- Whoever is told of a completion is a task of the program.
-use Rattle.std.proofs.Common.{◌≡◌, ℕ, ◌<◌, Bool, true, false, cond, List, [], ◌∷◌, length, slice_get, Option, Some, None, refl, sym, ◌∙◌, subst, arith}
+use Rattle.std.proofs.Common.{◌≡◌, ℕ, ◌<◌, Bool, true, false, cond, List, [], ◌∷◌, length, slice_get, Option, Some, None, refl, sym, ◌∙◌, subst}
 use Rattle.std.specs.Prelude.{◌||◌, ◌&&◌, option_map, IfSome}
 use Rattle.std.specs.List.{list_any}
 use Rattle.std.proofs.lemmas.Option.{slice_get_within}
@@ -9,9 +9,11 @@ use Rattle.rt_base.specs.declared.data.TaskDef.{TaskDef}
 use Rattle.rt_base.specs.Matching.{same_request}
 use Rattle.rt_base.specs.State.{Task}
 use Rattle.task_machine.specs.Machine.{awaited_at, or_none}
-use Rattle.core_book.specs.declared.telling.Told.{Told}
+use Rattle.book_counts.specs.declared.telling.Told.{Told}
 use Rattle.core_book.specs.Ledger.{bound_in}
-use Rattle.core_book.specs.Kept.{Shelf, IsBook, awaits_now, completed_now, expects_now, state_now, told_requests}
+use Rattle.core_book.proofs.Moved.{fits_now}
+use Rattle.core_book.specs.Kept.{Shelf, IsBook, state_now}
+use Rattle.book_counts.specs.Counted.{awaits_now, completed_now, expects_now, told_requests}
 
 -- a request that is given where something holds: it holds
 where_it_holds : (holds : Bool) (req found : ReqNo) → found ∷ [] ≡ cond holds (req ∷ []) [] → (found ≡ req) × (holds ≡ true)
@@ -38,7 +40,7 @@ expected_exists : (shelf : Shelf) (req : ReqNo) (marked awaited : Bool) → IsBo
     → marked ≡ list_any (same_request req) (bound_in (state_now shelf) req.task.0) → awaited ≡ awaits_now shelf.program shelf.phases req
     → (marked || awaited) ≡ true → req.task.0 < length shelf.program.tasks.items
 expected_exists shelf req true awaited b is_bound awaits expected =
-    subst (λ (n : ℕ). req.task.0 < n) b.kept.fits.counted
+    subst (λ (n : ℕ). req.task.0 < n) (fits_now shelf b.kept).counted
     (has_bound req (state_now shelf).tasks (slice_get (state_now shelf).tasks req.task.0) refl (sym is_bound))
 expected_exists shelf req false awaited b is_bound awaits expected =
     awaits_some req shelf.program.tasks.items (slice_get shelf.program.tasks.items req.task.0) (slice_get shelf.phases req.task.0) refl (sym awaits ∙ expected)

@@ -1,5 +1,5 @@
 -- What the call and the end of a wait owe, in terms of a book's fields.
-use Rattle.std.proofs.Common.{◌≡◌, ℕ, ◌+◌, ◌*◌, ◌^◌, ◌<◌, ◌≤◌, Bool, true, false, cond, List, [], ◌∷◌, ◌++◌, length, slice_get, slice_set, Some, None, Option}
+use Rattle.std.proofs.Common.{◌≡◌, ℕ, ◌+◌, ◌^◌, ◌<◌, ◌≤◌, Bool, true, false, cond, List, [], ◌∷◌, ◌++◌, length, slice_get, slice_set, Some, None, Option}
 use Rattle.std.proofs.Common.{refl, sym, ap, ◌∙◌, subst, arith}
 use Rattle.std.specs.Prelude.{ℤ}
 use Rattle.rt_base.specs.Listing.{Listing}
@@ -15,35 +15,36 @@ use Rattle.rt_base.specs.declared.data.Entry.{Entry}
 use Rattle.rt_base.specs.declared.data.Entry.TheVariants as entry
 use Rattle.rt_base.specs.declared.data.TaskDef.{TaskDef}
 use Rattle.rt_base.specs.declared.data.Program.{Program}
-use Rattle.rt_base.specs.Spans.{span_len}
 use Rattle.rt_base.specs.Operations.{task_no, named_requests, awaited}
 use Rattle.rt_base.specs.Precedes.{GoneMore, LetGo}
 use Rattle.rt_base.specs.Exchange.{Exchange}
 use Rattle.rt_base.specs.State.{State, Task, is_released, let_go}
 use Rattle.rt_base.specs.MayMove.{AreComplete}
-use Rattle.rt_base.specs.WellFormed.{OfSpan, MayWrite}
 use Rattle.task_local.specs.Waits.{taken, told, handles_of, status_span_of, statuses_of, stored_by_handles, put_statuses}
 use Rattle.task_local.specs.Standing.{def_of, phase_before}
 use Rattle.task_local.specs.StandsFor.{Record, StandsFor, StandsAs}
-use Rattle.task_machine.specs.Machine.{Moved, move, wait_move, open_count, open_ones, awaited_at}
+use Rattle.task_machine.specs.Machine.{Moved, move, call_move, wait_move, open_count, open_ones, awaited_at}
 use Rattle.task_machine.specs.Legal.{final}
 use Rattle.task_machine.specs.Laws.{is_blocking_call}
 use Rattle.task_machine.specs.Owed.{opened_by}
 use Rattle.wait_steps.specs.StatusSpans.{HasPlaces}
 use Rattle.core_book.specs.Ledger.{Ledger, LeavesPending, bound_in, record_at}
-use Rattle.core_book.specs.Kept.{Shelf, IsBook, IsCounted, IsNumbered, IsAwait, IsWait, KeepsState, is_posting_at, opens, state_now, to_tell, waits_at}
-use Rattle.core_book.proofs.After.{Changes}
-use Rattle.core_book.proofs.Changes.{nth_at-same, wait_changes}
-use Rattle.core_book.proofs.Moved.{IsMoved, gone_kept, ledger_of}
-use Rattle.core_book.proofs.Opened.{opened-row}
-use Rattle.core_book.proofs.Tells.{statuses_each, tell_next}
-use Rattle.core_book.proofs.Held.{Held, handed_of, read_at, theirs, told_room, told_count}
-use Rattle.core_book.proofs.Questions.{awaited_is}
-use Rattle.core_book.proofs.CallLemmas.{Before, before, before_may, operation_is}
-use Rattle.core_book.proofs.LeaveLemmas.{Within, enabled_in, stored_def}
-use Rattle.core_book.proofs.BoundAfter.{BoundAsBefore}
-use Rattle.core_book.proofs.CountLemmas.{counted_move}
-use Rattle.core_book.proofs.Numbers.{numbered_on}
+use Rattle.core_book.specs.Kept.{Shelf, IsBook, IsAwait, IsWait, KeepsState, is_posting_at, opens, state_now}
+use Rattle.book_counts.specs.Counted.{IsCounted, IsNumbered, waits_at}
+use Rattle.task_machine.proofs.Rows.{move-row}
+use Rattle.run_bounds.proofs.Changes.{nth_at-same}
+use Rattle.core_book.proofs.Moved.{IsMoved, gone_kept, ledger_of, opened-row}
+use Rattle.run_bounds.proofs.Tells.{statuses_each}
+use Rattle.run_bounds.proofs.Operations.{few_handles}
+use Rattle.core_book.proofs.Held.{handed_of, read_at, theirs}
+use Rattle.book_counts.proofs.Awaiting.{awaited_is}
+use Rattle.core_book.proofs.CallLemmas.{Before, before, before_may}
+use Rattle.run_bounds.proofs.Operations.{operation_is}
+use Rattle.core_book.proofs.LeaveLemmas.{Within, enabled_in, leave_room, stored_def}
+use Rattle.book_counts.proofs.Bindings.{BoundAsBefore}
+use Rattle.book_counts.proofs.CountLemmas.{counted_move}
+use Rattle.book_counts.proofs.Numbers.{numbered_on}
+use Rattle.wait_steps.proofs.Naming.{places_of}
 
 -- the parts of the wait that an operation is
 pub record WaitIs (operation : Option Op) : Type 0 where
@@ -84,7 +85,7 @@ pub wait_room : (shelf : Shelf) (t k : ℕ) (def : TaskDef) (w : WaitIs (slice_g
     → slice_get shelf.program.tasks.items t ≡ Some def → length w.handles.items ≤ shelf.opened_places
 wait_room shelf t k def w kept is_def =
     let all : opens (slice_get def.body.items k) ≡ length w.handles.items = ap opens w.is in
-    let room = kept.rooms.opened t k def is_def in
+    let room = kept.places.opened t k def is_def in
     omega arith
 
 -- what the task awaits in it
@@ -95,13 +96,12 @@ wait_awaits t k def w = awaited_is t def k (op.Await false w.handles w.status) w
 abbrev pub waiting_in : ℕ → Task → Task
 waiting_in k was = record was { phase = phase.In k }
 
-pub wait_changed : (shelf : Shelf) (held : Record) (t k : ℕ) (def : TaskDef) → KeepsState shelf → (w : Waits shelf held t k def)
-    → Changes shelf.program (state_now shelf) t def w.it.here.was (waiting_in k w.it.here.was)
-    (wait_move shelf.program (state_now shelf) t w.it.here.was k (named_requests t w.parts.handles.items)).state
-    (wait_move shelf.program (state_now shelf) t w.it.here.was k (named_requests t w.parts.handles.items)).entry
-wait_changed shelf held t k def kept w =
-    wait_changes shelf.program (state_now shelf) t def w.it.here.was k w.parts.handles w.parts.status w.it.here.is_def w.it.here.is_task w.it.at w.parts.is
-    (before_may shelf held t k def (op.Await false w.parts.handles w.parts.status) w.it) kept.fits
+pub wait_made : (shelf : Shelf) (held : Record) (t k : ℕ) (def : TaskDef) → (w : Waits shelf held t k def)
+    → move shelf.program (state_now shelf) t
+    ≡ wait_move shelf.program (state_now shelf) t w.it.here.was k (named_requests t w.parts.handles.items)
+wait_made shelf held t k def w =
+    move-row shelf.program (state_now shelf) t def w.it.here.was (phase.At k) w.it.here.is_def w.it.here.is_task w.it.at
+    ∙ ap (call_move shelf.program (state_now shelf) t def w.it.here.was k) w.parts.is
 
 -- what the engine says of the named requests is what the state says
 pub count_now : (shelf : Shelf) (reqs : List ReqNo) → KeepsState shelf
@@ -130,14 +130,17 @@ pub wait_moved : (shelf : Shelf) (held : Record) (t k count : ℕ) (def : TaskDe
     → count ≡ open_count shelf.engine.program shelf.engine.exchange (named_requests t named)
     → listed ≡ open_ones shelf.engine.program shelf.engine.exchange (named_requests t named)
     → entries ≡ shelf.entries ++ entry.Call (task_no t) k count ∷ [] → shelf.entry_places ≤ entry_places → shelf.opened_places ≤ opened_places
-    → IsMoved shelf (shelf_waiting shelf t k entries waits listed entry_places opened_places) t (waiting_in k w.it.here.was)
-    (wait_move shelf.program (state_now shelf) t w.it.here.was k (named_requests t w.parts.handles.items)).state
-    (wait_move shelf.program (state_now shelf) t w.it.here.was k (named_requests t w.parts.handles.items)).entry
+    → IsMoved shelf (shelf_waiting shelf t k entries waits listed entry_places opened_places) t w.it.here.was (waiting_in k w.it.here.was)
+    (wait_move shelf.program (state_now shelf) t w.it.here.was k (named_requests t w.parts.handles.items))
 wait_moved shelf held t k count def named entries waits listed entry_places opened_places kept w same counted opens grown more more' =
     let p : Program = shelf.program in
     let s : State = state_now shelf in
     let was : Task = w.it.here.was in
     record {
+      may = before_may shelf held t k def (op.Await false w.parts.handles w.parts.status) w.it;
+      moved = wait_made shelf held t k def w;
+      is_task = w.it.here.is_task;
+      tasks = refl;
       program = refl;
       workers = refl;
       handed = handed_of shelf held t def (phase.At k) (phase.At k) kept w.it.here w.it.at (λ e. absurd (cc e));
@@ -149,16 +152,14 @@ wait_moved shelf held t k count def named entries waits listed entry_places open
       exchange = kept.exchange_is;
       phases = refl;
       memory = kept.memory_is;
+      cells = refl;
       notices = kept.notices_are;
       entries = grown ∙ ap (λ (n : ℕ). shelf.entries ++ entry.Call (task_no t) k n ∷ [])
           (counted ∙ count_now shelf (named_requests t named) kept ∙ ap (λ (z : List Handle). open_count p s.exchange (named_requests t z)) same);
       statuses = kept.legal.told;
       opened = opens ∙ open_now shelf (named_requests t named) kept ∙ ap (λ (z : List Handle). open_ones p s.exchange (named_requests t z)) same
           ∙ sym (ap (opened_by p s t def was k) w.parts.is) ∙ sym (opened-row p s t def was (phase.At k) w.it.here.is_def w.it.here.is_task w.it.at);
-      entry_places = more;
-      status_places = omega arith;
-      notice_places = omega arith;
-      opened_places = more';
+      places = record { entries = more; statuses = omega arith; notices = omega arith; opened = more' };
     }
 
 -- the counts after the call
@@ -204,10 +205,9 @@ pub wait_pending : (shelf : Shelf) (held : Record) (t k count : ℕ) (def : Task
     → count ≡ open_count shelf.engine.program shelf.engine.exchange (named_requests t named) → ledger_of shelf ≡ l → prog ≡ l.program
     → LeavesPending (move prog (final prog l.history) held.task).entry count
 wait_pending shelf held t k count def named l prog kept w same counted view of_book =
-    let made = wait_changed shelf held t k def kept w in
     theirs (λ (q : Program) (es : List Entry). LeavesPending (move q (final q es) held.task).entry count) shelf l prog view of_book
     (subst (λ (e : Entry). LeavesPending e count)
-    (sym (ap (λ (z : Moved). z.entry) (ap (move shelf.program (state_now shelf)) (sym w.it.here.who) ∙ made.moved)))
+    (sym (ap (λ (z : Moved). z.entry) (ap (move shelf.program (state_now shelf)) (sym w.it.here.who) ∙ wait_made shelf held t k def w)))
     (counted ∙ count_now shelf (named_requests t named) kept
     ∙ ap (λ (z : List Handle). open_count shelf.program (state_now shelf).exchange (named_requests t z)) same))
 
@@ -255,26 +255,10 @@ wait_complete shelf held t u k def named kept w same who =
     (subst (λ (e : Exchange). AreComplete shelf.program e (named_requests t w.parts.handles.items)) (sym kept.exchange_is)
     (subst (AreComplete shelf.program (state_now shelf).exchange) (wait_awaits t k def w.parts) (enabled_in shelf held t k def w.in_it)))))
 
--- there is room for its statuses, and they are counted in 32 bits
-pub wait_told_room : (shelf : Shelf) (held : Record) (t k : ℕ) (def : TaskDef) → KeepsState shelf → (w : InWait shelf held t k def)
-    → length shelf.statuses + length w.parts.handles.items ≤ shelf.status_places
-wait_told_room shelf held t k def kept w =
-    let room = told_room shelf held t def (phase.In k) (phase.In k) kept w.in_it.here w.in_it.here.stands.0 in
-    let next = tell_next def k (op.Await false w.parts.handles w.parts.status) w.parts.is in
-    omega arith
-
-pub few_named : (shelf : Shelf) (held : Record) (t k : ℕ) (def : TaskDef) (at : Phase) → KeepsState shelf → (w : WaitIs (slice_get def.body.items k))
-    → (h : Held shelf held t def at) → to_tell def h.was.phase ≡ to_tell def (phase.In k) → length w.handles.items < 2 ^ 32
-few_named shelf held t k def at kept w h same =
-    let few = told_count shelf held t def at h.was.phase kept h refl in
-    let next = tell_next def k (op.Await false w.handles w.status) w.is in
-    omega arith
-
--- the cells of its statuses are declared
-pub places_of : (p : Program) (def : TaskDef) (status : Option Span) (n : ℕ) → OfSpan (λ cells. MayWrite p def cells × (span_len cells ≡ 4 * n)) status
-    → HasPlaces def status n
-places_of p def None n allowed = tt
-places_of p def (Some cells) n allowed = (allowed.0.declared, omega (arith, allowed.1))
+-- its handles are counted in 32 bits
+pub few_named : (shelf : Shelf) (t k : ℕ) (def : TaskDef) → KeepsState shelf → (w : WaitIs (slice_get def.body.items k))
+    → slice_get shelf.program.tasks.items t ≡ Some def → length w.handles.items < 2 ^ 32
+few_named shelf t k def kept w is_def = omega (arith, few_handles shelf.program t k def false w.handles w.status kept.well is_def w.is)
 
 pub wait_places : (shelf : Shelf) (held : Record) (t k : ℕ) (def : TaskDef) → KeepsState shelf → (w : InWait shelf held t k def)
     → HasPlaces def w.parts.status (length w.parts.handles.items)
@@ -291,6 +275,16 @@ wait_tells shelf held t k def named kept w same =
     ap (λ (q : Program). statuses_of q shelf.engine.exchange t named) kept.engine_of
     ∙ ap (λ (e : Exchange). statuses_of shelf.program e t named) kept.exchange_is
     ∙ ap (statuses_of shelf.program (state_now shelf).exchange t) same ∙ rw (w.parts.is) refl
+
+-- there is room for its statuses
+pub wait_told_room : (shelf : Shelf) (held : Record) (t k : ℕ) (def : TaskDef) (named : List Handle) → KeepsState shelf → (w : InWait shelf held t k def)
+    → named ≡ w.parts.handles.items → length shelf.statuses + length named ≤ shelf.status_places
+wait_told_room shelf held t k def named kept w same =
+    omega (
+      arith,
+      leave_room shelf held t k def _ kept w.in_it (wait_tells shelf held t k def named kept w same),
+      statuses_each shelf.engine.program shelf.engine.exchange t named,
+    )
 
 wait_takes : (p : Program) (e : Exchange) (t k : ℕ) (def : TaskDef) (w : WaitIs (slice_get def.body.items k)) (copy : List ℤ)
     → taken p e t def k copy

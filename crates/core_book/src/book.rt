@@ -16,14 +16,12 @@ mod polls;
 mod questions;
 mod releases;
 
-use crate::counts::Counts;
 use crate::fresh::{fresh_lists, fresh_numbers};
 use crate::places::{blocked_place, call_place};
-use crate::posted::Posted;
 use crate::posting::posting_at;
-use crate::room::note;
 use crate::tasks::{phase_before, stop, task_of};
 use crate::waits::binds_at;
+use book_counts::{Counts, Posted};
 use match_engine::Engine;
 use region_deps::Deps;
 use rt_base::{Cells, Entry, History, Listed, Phase, Phases, Program, ReqNo, Status, TaskNo};
@@ -32,7 +30,7 @@ use std::collections::VecDeque;
 use std::marker::Model;
 use std::snapshot::Snapshot;
 use task_local::TaskRec;
-use wait_steps::Marks;
+use wait_steps::{Marks, note};
 
 /// What is left of a book: the history, and the cells and the phases of the state after it.
 #[derive(Debug, Drop)]
@@ -173,9 +171,10 @@ impl Book {
         note(&mut self.entries, Entry::Start { task });
     }
 
-    /// The task calls its next operation, a posting or a wait, and goes into it where it blocks; answers how many of its requests are incomplete
-    /// then. Takes no memory. Its time grows with what waits in one mailbox, or the handles of the wait, with the handles of the wait in which the
-    /// other task is, and with the local operations that come next.
+    /// The task calls its next operation: a posting or a wait, into which it goes where it blocks, or an `iwait` or `iwaitall`, which binds what it
+    /// names and is incomplete and goes on (TAMPI, `TAMPI_Iwait`). Answers how many of its requests are incomplete then. Takes no memory. A posting is
+    /// matched in constant time over all postings; the time of a call grows with the handles of its own wait or binding, with those of the wait in
+    /// which the other task is, and with the local operations that come next.
     pub fn call(&mut self, prog: &Program, rec: &mut TaskRec, cells: Cells) -> u32
         requires well_formed { WellFormed prog.now }
         requires same { prog.now ≡ self.old.program }

@@ -5,16 +5,15 @@ ghost use Rattle.std.specs.VecDeque.{deque_capacity};
 ghost use Rattle.rt_base.specs.declared.data.Phase.TheVariants as phase;
 ghost use Rattle.rt_base.specs.declared.data.TaskDef.{TaskDef};
 ghost use Rattle.rt_base.specs.Layout.{memory_len};
-ghost use Rattle.rt_base.specs.WellFormed.{WellFormed, over_operations};
-ghost use Rattle.task_machine.specs.Course.{most_moves};
+ghost use Rattle.rt_base.specs.WellFormed.{WellFormed};
 ghost use Rattle.wait_steps.specs.MarkedRows.{unmarked};
-ghost use Rattle.core_book.specs.Kept.{most_postings, opens, tells};
+ghost use Rattle.run_bounds.specs.Bounds.{most_entries, most_postings, most_statuses};
+ghost use Rattle.core_book.specs.Kept.{opens};
 
-use crate::counts::Counts;
-use crate::posted::Posted;
 use crate::room::{
     all_waiting, cell_count, longest_wait, most_moves, most_postings, most_told, zeros,
 };
+use book_counts::{Counts, Posted};
 use rt_base::{Entry, Phase, Program, ReqNo, Status};
 use std::alloc::{AllocError, Global};
 use std::collections::VecDeque;
@@ -41,8 +40,8 @@ pub(crate) fn fresh_lists(alloc: Global, prog: &Program) -> Result<Lists, AllocE
     ensures statuses { IfOk result (λ lists. lists.statuses.items ≡ []) }
     ensures opened { IfOk result (λ lists. lists.opened.items ≡ []) }
     ensures notice_places { IfOk result (λ lists. most_postings prog.now.tasks.items ≤ deque_capacity lists.notices) }
-    ensures entry_places { IfOk result (λ lists. most_moves prog.now.tasks.items + most_postings prog.now.tasks.items ≤ vec_capacity lists.entries) }
-    ensures status_places { IfOk result (λ lists. over_operations tells prog.now.tasks.items ≤ vec_capacity lists.statuses) }
+    ensures entry_places { IfOk result (λ lists. most_entries prog.now ≤ vec_capacity lists.entries) }
+    ensures status_places { IfOk result (λ lists. most_statuses prog.now ≤ vec_capacity lists.statuses) }
     ensures opened_places { IfOk result (λ lists. (t k : ℕ) (def : TaskDef) → slice_get prog.now.tasks.items t ≡ Some def
         → opens (slice_get def.body.items k) ≤ vec_capacity lists.opened) }
 {

@@ -2,15 +2,11 @@
 #![tactic(auto)]
 
 mod book;
-mod bound;
-mod counts;
 mod fresh;
 mod places;
-mod posted;
 mod posting;
 mod room;
 mod tasks;
-mod telling;
 mod waits;
 
 pub use book::{Book, BookEnd};

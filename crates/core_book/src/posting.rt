@@ -17,11 +17,11 @@ ghost use Rattle.rt_base.specs.Spans.{span_len};
 ghost use Rattle.rt_base.specs.WellFormed.{WellFormed, IsDeclared};
 ghost use Rattle.core_book.specs.Kept.{PostsAs, is_posting_at, told_now};
 
-use crate::room::note;
 use crate::tasks::{phase_before, stop};
 use match_engine::Engine;
 use rt_base::{Cells, How, Op, Phase, Program, ReqNo, Span, Status, TaskDef};
 use task_local::TaskRec;
+use wait_steps::note;
 
 /// A posting of a body: how it is posted, its span, and where its status goes.
 #[derive(Clone, Copy)]
@@ -126,7 +126,7 @@ pub(crate) fn tell_status(
     req: ReqNo,
     how: How,
 ) -> u32
-    requires room { length statuses.old.items < vec_capacity statuses.old }
+    requires room { length statuses.old.items + length (told_now engine.now.program engine.now.exchange req how) ≤ vec_capacity statuses.old }
     requires same { prog.now ≡ engine.now.program }
     requires complete { is_complete engine.now.program engine.now.exchange req ≡ true }
     ensures items { statuses.new.items ≡ statuses.old.items ++ told_now engine.now.program engine.now.exchange req how }

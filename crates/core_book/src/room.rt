@@ -4,13 +4,14 @@ ghost use Rattle.std.specs.Prelude.{◌≡◌, ◌≤◌, ◌<◌, ◌^◌, ◌=
 ghost use Rattle.std.specs.Prelude.{IfOk, if◌then◌else◌};
 ghost use Rattle.rt_base.specs.declared.data.Phase.TheVariants as phase;
 ghost use Rattle.rt_base.specs.declared.data.TaskDef.{TaskDef};
-ghost use Rattle.rt_base.specs.Operations.{is_posting, postings};
 ghost use Rattle.rt_base.specs.WellFormed.{over_operations};
 ghost use Rattle.task_machine.specs.Course.{most_moves};
-ghost use Rattle.core_book.specs.Kept.{most_postings, opens, tells};
+ghost use Rattle.run_bounds.specs.Bounds.{most_postings, tells};
+ghost use Rattle.core_book.specs.Kept.{opens};
 
 use rt_base::{Op, Phase, Status, TaskDef};
 use std::alloc::{AllocError, Global};
+use wait_steps::{note, postings_of};
 
 // At most how many moves these tasks make.
 pub(crate) fn most_moves(tasks: &[TaskDef]) -> usize
@@ -34,30 +35,6 @@ pub(crate) fn most_postings(tasks: &[TaskDef]) -> usize
         count += postings_of(task.body.as_slice());
     }
     count
-}
-
-// How many of these operations post.
-fn postings_of(body: &[Op]) -> usize
-    ensures { result ≡ postings body.now }
-{
-    let mut count = 0;
-    for operation in body {
-        if posts(operation) {
-            count += 1;
-        }
-    }
-    count
-}
-
-// Whether the operation posts a request.
-fn posts(operation: &Op) -> bool
-    ensures { result ≡ is_posting operation.now }
-{
-    match operation {
-        Op::Compute { .. } => false,
-        Op::Post { .. } => true,
-        Op::Await { .. } => false,
-    }
 }
 
 // At most how many statuses these tasks tell.
@@ -131,18 +108,6 @@ pub(crate) fn cell_count(lens: &[u32]) -> u32
     ensures { result ≡ sum lens.now }
 {
     lens.iter().sum()
-}
-
-// Adds an item where there is a place for it.
-pub(crate) fn note<T: Drop>(list: &mut Vec<T>, item: T)
-    requires { length list.old.items < vec_capacity list.old }
-    ensures items { list.new.items ≡ list.old.items ++ item ∷ [] }
-    ensures places { vec_capacity list.old ≤ vec_capacity list.new }
-{
-    match list.push(item) {
-        Ok(()) => {}
-        Err(_) => unreachable!(),
-    }
 }
 
 // Adds an item where this number isn't 0 and there is a place for it.

@@ -22,7 +22,7 @@ use Rattle.plain_run.specs.Turns.{is_started, IsPlaced, IsInLine, AreInLine, IsF
 use Rattle.task_machine.proofs.Lists.{slice_get-set_same, slice_get-set_other, slice_get-map}
 use Rattle.task_machine.proofs.Items.{same_some, either_place, at_replicate}
 use Rattle.task_machine.proofs.Moves.{all_left-set}
-use Rattle.core_book.proofs.After.{phases_after}
+use Rattle.run_bounds.proofs.Moves.{phases_after}
 use Rattle.core_book.proofs.Held.{def_is}
 use Rattle.plain_run.proofs.Others.{IsAble, OnlyMoves, move_others, stop_able}
 

@@ -27,7 +27,7 @@ use Rattle.task_machine.specs.Legal.{caller}
 use Rattle.task_machine.specs.Course.{moves_left}
 use Rattle.plain_run.specs.Turns.{is_started, IsPlaced}
 use Rattle.task_machine.proofs.Rows.{move-row}
-use Rattle.core_book.proofs.Changes.{fewer_at_start, fewer_after_leave, left_by_stop}
+use Rattle.run_bounds.proofs.Changes.{fewer_at_start, fewer_after_leave, left_by_stop}
 
 -- a task that stands there may be moved on: before a call or in an operation, or before its start, its return or its release
 abbrev pub IsAble : TaskDef → Phase → Type 0

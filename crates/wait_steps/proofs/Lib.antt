@@ -2,3 +2,6 @@ mod Handles
 mod Samples
 mod Spans
 pub mod Marking
+pub mod Naming
+pub mod BoundLoop
+pub mod Sent

@@ -1,3 +1,4 @@
 pub mod StatusSpans
 pub mod MarkedRows
 pub mod Laws
+pub mod Received

@@ -109,8 +109,8 @@ fn bind_one(
     }
 }
 
-// How many of these operations post.
-fn postings_of(body: &[Op]) -> usize
+/// How many of these operations post. Looks at each of them.
+pub fn postings_of(body: &[Op]) -> usize
     ensures { result ≡ postings body.now }
 {
     body.iter().filter(|operation| posts(operation)).count()

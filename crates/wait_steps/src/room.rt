@@ -2,8 +2,8 @@
 
 ghost use Rattle.std.specs.Prelude.{◌≡◌, ◌≤◌, ◌<◌, ◌∷◌, [], ◌++◌, length, vec_capacity};
 
-// Adds an item where there is a place for it.
-pub(crate) fn note<T: Drop>(list: &mut Vec<T>, item: T)
+/// Adds an item where there is a place for it. Takes no memory.
+pub fn note<T: Drop>(list: &mut Vec<T>, item: T)
     requires { length list.old.items < vec_capacity list.old }
     ensures items { list.new.items ≡ list.old.items ++ item ∷ [] }
     ensures places { vec_capacity list.old ≤ vec_capacity list.new }

@@ -12,13 +12,13 @@ ghost use Rattle.core_book.specs.Kept.{PostsAs, IsWait, IsBind};
 
 use crate::book::Book;
 use crate::posting::{Posting, pending, phase_after, place_after, post, waits_after};
-use crate::room::{note, note_some};
+use crate::room::note_some;
 use crate::tasks::{phase_before, stop, task_of};
-use crate::telling::{lower_bound, lower_waited, tell, who_is_told};
 use crate::waits::handles_at;
+use book_counts::{lower_bound, lower_waited, tell, who_is_told};
 use rt_base::{Cells, Entry, Phase, Program, ReqNo};
 use task_local::TaskRec;
-use wait_steps::{bind_all, note_open, open_among};
+use wait_steps::{bind_all, note, note_open, open_among};
 
 impl Book {
     // The task posts the request of operation k, and goes into it where it blocks; answers how many of its requests are incomplete then.

@@ -12,12 +12,12 @@ ghost use Rattle.core_book.specs.Kept.{PostsAs, is_posting_at};
 
 use crate::book::Book;
 use crate::posting::{Posting, store_status, tell_status};
-use crate::room::{count_of, note, statuses_from};
+use crate::room::{count_of, statuses_from};
 use crate::tasks::{phase_before, stop, task_of};
 use crate::waits::{handles_at, status_at};
 use rt_base::{Entry, Program, ReqNo};
 use task_local::TaskRec;
-use wait_steps::{store_received, store_statuses, tell_each};
+use wait_steps::{note, store_received, store_statuses, tell_each};
 
 impl Book {
     // The task leaves the posting in which it waits: received cells and the status go into its copy.

@@ -5,8 +5,8 @@ ghost use Rattle.task_machine.specs.Legal.{final};
 ghost use Rattle.core_book.specs.Ledger.{TakesNotice};
 
 use crate::book::Book;
-use crate::room::note;
 use rt_base::{Entry, ReqNo};
+use wait_steps::note;
 
 impl Book {
     /// A poller, by its number among the workers, takes the first notice of a completion (TAMPI, completion by polling). Takes no memory, and constant

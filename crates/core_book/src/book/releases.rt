@@ -9,11 +9,11 @@ ghost use Rattle.task_machine.specs.Legal.{final};
 ghost use Rattle.core_book.specs.Ledger.{MakesMove};
 
 use crate::book::Book;
-use crate::bound::take_bound;
-use crate::room::{count_of, note};
+use crate::room::count_of;
 use crate::tasks::task_of;
 use rt_base::{Entry, Phase, Program};
 use task_local::TaskRec;
+use wait_steps::{note, take_bound};
 
 impl Book {
     /// The task returns: its body has ended. Takes no memory.

@@ -1,9 +1,9 @@
 -- The places of a new book's lists are counted in 32 bits.
 use Rattle.std.proofs.Common.{◌≡◌, ap, ◌∙◌, arith}
 use Rattle.task_machine.specs.Course.{most_moves}
-use Rattle.core_book.specs.Kept.{most_postings}
-use Rattle.core_book.proofs.Few.{few_moves, most_moves_few}
-use Rattle.core_book.proofs.Rooms.{few_postings, few_told}
+use Rattle.run_bounds.specs.Bounds.{most_postings}
+use Rattle.run_bounds.proofs.Few.{few_moves, most_moves_few}
+use Rattle.run_bounds.proofs.Rooms.{few_postings, few_told}
 use Rattle.core_book.proofs.fresh.fresh_lists.Goals as goal
 
 pub most_moves-moves-requires : goal.most_moves-moves-requires

@@ -1,5 +1,5 @@
 use Rattle.std.proofs.Common.{◌≡◌, take}
-use Rattle.core_book.specs.Kept.{most_postings}
+use Rattle.run_bounds.specs.Bounds.{most_postings}
 use Rattle.core_book.proofs.room.most_postings.Given as goal
 
 -- the postings of the tasks so far

@@ -1,6 +1,6 @@
 use Rattle.std.proofs.Common.{◌≡◌, take}
 use Rattle.rt_base.specs.WellFormed.{over_operations}
-use Rattle.core_book.specs.Kept.{tells}
+use Rattle.run_bounds.specs.Bounds.{tells}
 use Rattle.core_book.proofs.room.most_told.Given as goal
 
 -- what the tasks so far tell

@@ -1,6 +1,6 @@
 use Rattle.std.proofs.Common.{◌≡◌, take}
 use Rattle.std.specs.Prelude.{sum_by}
-use Rattle.core_book.specs.Kept.{tells}
+use Rattle.run_bounds.specs.Bounds.{tells}
 use Rattle.core_book.proofs.room.told_of.Given as goal
 
 -- what the operations so far tell

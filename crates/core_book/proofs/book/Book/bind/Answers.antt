@@ -9,15 +9,16 @@ use Rattle.rt_base.specs.Operations.{named_requests}
 use Rattle.task_machine.specs.Machine.{bind_move, open_ones}
 use Rattle.core_book.specs.Kept.{Shelf, state_now}
 use Rattle.core_book.proofs.Insides.{shelf_of}
-use Rattle.core_book.proofs.Few.{few_operations}
+use Rattle.run_bounds.proofs.Few.{few_operations}
 use Rattle.core_book.proofs.Moved.{IsMoved, book_after, gone_more, makes_move}
-use Rattle.core_book.proofs.Held.{room_at, place_within}
+use Rattle.core_book.proofs.Held.{entry_room, place_within}
+use Rattle.core_book.proofs.CallLemmas.{before_may}
 use Rattle.core_book.proofs.BookMoves.{left_as}
 use Rattle.core_book.proofs.BoundAfter.{bound_more}
 use Rattle.core_book.proofs.BindingMoves.{binding_bind}
 use Rattle.core_book.proofs.CountMoves.{bind_counted}
 use Rattle.core_book.proofs.BindLemmas.{Binds, binds_here, bind_names, bind_within, bind_room, bind_few, bind_has, bound_few, incomplete_few, bound_here}
-use Rattle.core_book.proofs.BindLemmas.{shelf_bound, bind_changed, bind_moved, bind_binds, bind_count, bind_marks, bind_numbered, bind_left, bind_stands}
+use Rattle.core_book.proofs.BindLemmas.{shelf_bound, bind_moved, bind_binds, bind_count, bind_marks, bind_numbered, bind_left, bind_stands}
 use Rattle.core_book.proofs.BindLemmas.{bind_pending}
 use Rattle.core_book.proofs.book.Book.bind.Goals as goal
 use Rattle.core_book.proofs.book.Book.bind.Goals.{After-clear, After-note}
@@ -122,9 +123,8 @@ overflow_add-k-2 c =
 
 pub note-requires : goal.note-requires
 note-requires c =
-    let w = known (goal.at.note-requires c).After-clear in
-    room_at (shelf_of c.self.inside) c.args.rec.now c.task-task.result.0 c.task_of-def.result.now (phase.At c.args.k) (phase.At c.args.k)
-    c.self.invariant.kept w.it.here w.it.at (omega arith)
+    entry_room (shelf_of c.self.inside) c.task-task.result.0 c.self.invariant.kept
+    (before_may (shelf_of c.self.inside) c.args.rec.now _ _ _ _ (known (goal.at.note-requires c).After-clear).it)
 
 -- the insides after the call
 abbrev later : (c : After-note) → Shelf
@@ -133,12 +133,10 @@ later c = shelf_bound (shelf_of c.self.inside) c.task-task.result.0 c.stop.resul
 
 moved : (c : After-note) → (w : Binds (shelf_of c.self.inside) c.args.rec.now c.task-task.result.0 c.args.k c.task_of-def.result.now)
     → c.handles_at-handles.result.now ≡ w.parts.handles.items
-    → IsMoved (shelf_of c.self.inside) (later c) c.task-task.result.0
+    → IsMoved (shelf_of c.self.inside) (later c) c.task-task.result.0 w.it.here.was
     (bound_here (shelf_of c.self.inside) c.task-task.result.0 c.args.k c.task_of-def.result.now w.parts.handles.items w.it.here.was)
     (bind_move (shelf_of c.self.inside).program (state_now (shelf_of c.self.inside)) c.task-task.result.0 c.task_of-def.result.now w.it.here.was c.args.k
-    (named_requests c.task-task.result.0 w.parts.handles.items)).state
-    (bind_move (shelf_of c.self.inside).program (state_now (shelf_of c.self.inside)) c.task-task.result.0 c.task_of-def.result.now w.it.here.was c.args.k
-    (named_requests c.task-task.result.0 w.parts.handles.items)).entry
+    (named_requests c.task-task.result.0 w.parts.handles.items))
 moved c w same =
     let s = shelf_of c.self.inside in
     bind_moved s c.args.rec.now c.task-task.result.0 c.args.k c.bind_all-pending.result c.task_of-def.result.now c.handles_at-handles.result.now
@@ -160,12 +158,11 @@ invariant_of-self c =
     let w = known at in
     let same = named at w in
     let m = moved (goal.at.invariant_of-self c).After-note w same in
-    let changed = bind_changed s held t c.args.k d c.self.invariant.kept w in
-    let binds = bound_more s _ t d w.it.here.was _ _ _ _ changed m refl in
+    let binds = bound_more _ m refl in
     record {
-      kept = book_after s _ t d w.it.here.was _ _ _ c.self.invariant.kept changed m;
+      kept = book_after c.self.invariant.kept m;
       counted = bind_counted s held t c.args.k d c.stop.result _ _ c.self.invariant w.it.here w.it.at c.stop.ensures
-          (gone_more s _ t d w.it.here.was _ _ _ changed m (rw w.it.at refl)) binds.others;
+          (gone_more m (rw w.it.at refl)) binds.others;
       numbered = bind_numbered s held t c.args.k d c.stop.result c.self.invariant w c.stop.ensures;
       binding = binding_bind s t c.bind_all-pending.result named_now _ c.bind_all-pending.new.marks c.raise.new.self c.raise-2.new.self c.self.invariant
           (exists at) (bind_has s held t c.args.k d named_now c.self.invariant w same)
@@ -183,12 +180,10 @@ returns-clause-moves c =
     let at = (goal.at.returns-clause-moves c).After-clear in
     let w = known at in
     let m = moved (goal.at.returns-clause-moves c).After-note w (named at w) in
-    let changed = bind_changed s held t c.args.k d c.self.invariant.kept w in
-    makes_move s _ held c.go.new.self t d w.it.here.was _ _ _ (book_after s _ t d w.it.here.was _ _ _ c.self.invariant.kept changed m) changed m
-    w.it.here.who w.it.here.program
+    makes_move c.self.invariant.kept m w.it.here.is_def w.it.here.who w.it.here.program
     (bind_left s held c.go.new.self t c.args.k d c.phase_before.result w c.phase_before.ensures c.go.ensures
     ∙ sym (left_as s held t d (phase.At c.args.k) w.it.here))
-    (bind_stands s held c.go.new.self t c.args.k d c.phase_before.result w c.phase_before.ensures c.go.ensures) c.args.self.now c.self.view_is
+    (bind_stands s held c.go.new.self t c.args.k d c.phase_before.result w c.phase_before.ensures c.go.ensures) c.self.view_is
 
 pub returns-clause-pending : goal.returns-clause-pending
 returns-clause-pending c =

@@ -2,7 +2,7 @@
 use Rattle.std.proofs.Common.{sym, ◌∙◌, eqb-true, eq-eqb}
 use Rattle.core_book.proofs.Insides.{shelf_of}
 use Rattle.core_book.proofs.Questions.{finished_answer}
-use Rattle.core_book.proofs.CountLemmas.{all_gone, none_unreleased}
+use Rattle.book_counts.proofs.CountLemmas.{all_gone, none_unreleased}
 use Rattle.core_book.proofs.book.Book.finished.Goals as goal
 
 pub returns : goal.returns

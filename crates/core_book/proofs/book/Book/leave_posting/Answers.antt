@@ -6,17 +6,18 @@ use Rattle.rt_base.specs.Operations.{nth_at, request}
 use Rattle.task_machine.specs.Machine.{leave_move}
 use Rattle.core_book.specs.Kept.{Shelf, state_now, told_now}
 use Rattle.core_book.proofs.Insides.{shelf_of}
-use Rattle.core_book.proofs.Few.{few_operations}
+use Rattle.run_bounds.proofs.Few.{few_operations}
 use Rattle.core_book.proofs.BookLemmas.{status_count}
 use Rattle.core_book.proofs.Moved.{IsMoved, book_after, gone_more, makes_move}
-use Rattle.core_book.proofs.Held.{room_at, place_within}
+use Rattle.core_book.proofs.Held.{entry_room, place_within}
 use Rattle.core_book.proofs.BookMoves.{left_as}
-use Rattle.core_book.proofs.LeaveLemmas.{Inside, Leaves, inside, is_done, stores, received_fit, status_received, status_declared, status_room, shelf_left}
-use Rattle.core_book.proofs.LeaveLemmas.{left_task, told_here, within_body, leave_changed, leave_moved, leave_left, leave_record, leave_stands}
+use Rattle.core_book.proofs.LeaveLemmas.{Inside, Leaves, inside, is_done, stores, received_fit, status_received, status_declared, shelf_left}
+use Rattle.core_book.proofs.LeaveLemmas.{left_task, told_here, within_body, leave_moved, leave_room, leave_left, leave_record, leave_stands}
 use Rattle.core_book.proofs.BoundAfter.{bound_kept}
 use Rattle.core_book.proofs.BindingMoves.{binding_kept}
 use Rattle.core_book.proofs.CountMoves.{leave_counted}
-use Rattle.core_book.proofs.Numbers.{leave_number, last_number, number_some, leave_numbered}
+use Rattle.core_book.proofs.Numbers.{leave_number, leave_numbered}
+use Rattle.book_counts.proofs.Numbers.{last_number, number_some}
 use Rattle.core_book.proofs.book.Book.leave_posting.Goals as goal
 use Rattle.core_book.proofs.book.Book.leave_posting.Goals.{After-last-arg-1, After-note}
 
@@ -69,17 +70,13 @@ count_of-from-requires c =
     let seen = ap (λ l. length l) c.deref.ensures.value in
     omega arith
 
--- there is room for the entry and for the status
-room : (c : After-last-arg-1) → length c.self.inside.entries.items < vec_capacity c.self.inside.entries
-room c =
-    let i = within c in
-    room_at (shelf_of c.self.inside) c.args.rec.now c.task-task.result.0 c.task_of-def.result.now (phase.In c.args.k) (phase.In c.args.k)
-    c.self.invariant.kept i.in_it.here i.in_it.here.stands.0 (omega arith)
-
 pub tell_status-count-requires-clause-room : goal.tell_status-count-requires-clause-room
 tell_status-count-requires-clause-room c =
-    status_room (shelf_of c.self.inside) c.args.rec.now c.task-task.result.0 c.args.k c.task_of-def.result.now c.args.posting c.self.invariant.kept
-    (within (goal.at.tell_status-count-requires-clause-room c).After-last-arg-1)
+    let at = (goal.at.tell_status-count-requires-clause-room c).After-last-arg-1 in
+    let i = within at in
+    leave_room (shelf_of c.self.inside) c.args.rec.now c.task-task.result.0 c.args.k c.task_of-def.result.now _ c.self.invariant.kept i.in_it
+    (told_here (shelf_of c.self.inside) c.task-task.result.0 c.args.k c.last.result c.task_of-def.result.now c.args.posting c.self.invariant.kept i.posts
+    (nth at c.last.result c.last.ensures))
 
 pub tell_status-count-requires-clause-complete : goal.tell_status-count-requires-clause-complete
 tell_status-count-requires-clause-complete c =
@@ -141,7 +138,8 @@ overflow_add-k-2 c =
     omega arith
 
 pub note-requires : goal.note-requires
-note-requires c = room (goal.at.note-requires c).After-last-arg-1
+note-requires c =
+    entry_room (shelf_of c.self.inside) c.task-task.result.0 c.self.invariant.kept (within (goal.at.note-requires c).After-last-arg-1).in_it.may
 
 -- what the calls have answered
 leaves : (c : After-note) → Leaves (shelf_of c.self.inside) c.tell_status-count.new.statuses.items c.note.new.list.items c.task-task.result.0 c.args.k
@@ -161,12 +159,9 @@ later c = shelf_left (shelf_of c.self.inside) c.task-task.result.0 c.stop.result
 
 moved : (c : After-note) → (i : Inside (shelf_of c.self.inside) c.args.rec.now c.task-task.result.0 c.args.k c.task_of-def.result.now c.args.posting)
     → c.last.result ≡ nth_at c.task_of-def.result.now c.args.k
-    → IsMoved (shelf_of c.self.inside) (later c) c.task-task.result.0
+    → IsMoved (shelf_of c.self.inside) (later c) c.task-task.result.0 i.in_it.here.was
     (left_task (shelf_of c.self.inside) c.task-task.result.0 c.args.k c.task_of-def.result.now i.in_it.here.was)
-    (leave_move (shelf_of c.self.inside).program (state_now (shelf_of c.self.inside)) c.task-task.result.0 c.task_of-def.result.now i.in_it.here.was
-    c.args.k).state
-    (leave_move (shelf_of c.self.inside).program (state_now (shelf_of c.self.inside)) c.task-task.result.0 c.task_of-def.result.now i.in_it.here.was
-    c.args.k).entry
+    (leave_move (shelf_of c.self.inside).program (state_now (shelf_of c.self.inside)) c.task-task.result.0 c.task_of-def.result.now i.in_it.here.was c.args.k)
 moved c i is_nth =
     let s = shelf_of c.self.inside in
     leave_moved s c.args.rec.now c.task-task.result.0 c.args.k c.count_of-from.result c.tell_status-count.result c.task_of-def.result.now _ c.stop.result
@@ -185,12 +180,11 @@ invariant_of-self c =
     let at = (goal.at.invariant_of-self c).After-last-arg-1 in
     let i = within at in
     let m = moved (goal.at.invariant_of-self c).After-note i (nth at c.last.result c.last.ensures) in
-    let changed = leave_changed s held t k d c.self.invariant.kept i.in_it in
-    let same = bound_kept s _ t d i.in_it.here.was _ _ _ changed m refl in
+    let same = bound_kept m refl in
     record {
-      kept = book_after s _ t d i.in_it.here.was _ _ _ c.self.invariant.kept changed m;
+      kept = book_after c.self.invariant.kept m;
       counted = leave_counted s held t k d c.stop.result _ _ c.self.invariant i.in_it c.stop.ensures
-          (gone_more s _ t d i.in_it.here.was _ _ _ changed m (rw i.in_it.here.stands.0 refl)) same;
+          (gone_more m (rw i.in_it.here.stands.0 refl)) same;
       binding = binding_kept s _ c.self.invariant same;
       numbered = leave_numbered s held t k d c.stop.result c.self.invariant i.in_it c.stop.ensures;
     }
@@ -206,11 +200,9 @@ returns c =
     let i = within at in
     let is_nth = nth at c.last.result c.last.ensures in
     let m = moved (goal.at.returns c).After-note i is_nth in
-    let changed = leave_changed s held t k d c.self.invariant.kept i.in_it in
     let left = leave_left s held c.store.new.self c.store_status.new.rec c.go.new.self t k c.last.result d c.args.posting c.phase_before.result
     c.cells.result.now c.self.invariant.kept i is_nth
     c.cells.ensures c.store.ensures c.store_status.ensures c.phase_before.ensures c.go.ensures in
-    makes_move s _ held c.go.new.self t d i.in_it.here.was _ _ _ (book_after s _ t d i.in_it.here.was _ _ _ c.self.invariant.kept changed m) changed m
-    i.in_it.here.who i.in_it.here.program
+    makes_move c.self.invariant.kept m i.in_it.here.is_def i.in_it.here.who i.in_it.here.program
     (leave_record s held c.go.new.self t k d i.in_it left ∙ sym (left_as s held t d (phase.In k) i.in_it.here))
-    (leave_stands s held c.go.new.self t k d i.in_it.here.was left) c.args.self.now c.self.view_is
+    (leave_stands s held c.go.new.self t k d i.in_it.here.was left) c.self.view_is

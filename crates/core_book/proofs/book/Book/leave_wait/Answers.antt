@@ -10,17 +10,17 @@ use Rattle.task_local.specs.Waits.{statuses_of}
 use Rattle.task_machine.specs.Machine.{leave_move}
 use Rattle.core_book.specs.Kept.{Shelf, state_now}
 use Rattle.core_book.proofs.Insides.{shelf_of}
-use Rattle.core_book.proofs.Few.{few_operations}
+use Rattle.run_bounds.proofs.Few.{few_operations}
 use Rattle.core_book.proofs.BookLemmas.{status_count}
 use Rattle.core_book.proofs.Moved.{IsMoved, book_after, gone_more, makes_move}
-use Rattle.core_book.proofs.Held.{room_at, place_within}
+use Rattle.core_book.proofs.Held.{entry_room, place_within}
 use Rattle.core_book.proofs.BookMoves.{left_as}
 use Rattle.core_book.proofs.BoundAfter.{bound_kept}
 use Rattle.core_book.proofs.BindingMoves.{binding_kept}
 use Rattle.core_book.proofs.CountMoves.{leave_counted}
 use Rattle.core_book.proofs.Numbers.{leave_numbered}
-use Rattle.core_book.proofs.Tells.{statuses_each}
-use Rattle.core_book.proofs.LeaveLemmas.{Within, is_within, within_body, shelf_left, left_task, leave_changed, leave_moved, leave_record, leave_stands}
+use Rattle.run_bounds.proofs.Tells.{statuses_each}
+use Rattle.core_book.proofs.LeaveLemmas.{Within, is_within, within_body, shelf_left, left_task, leave_moved, leave_record, leave_stands}
 use Rattle.core_book.proofs.WaitLemmas.{InWait, in_wait, is_await, is_wait, named_are, few_named, wait_complete, wait_told_room, wait_declared, wait_tells}
 use Rattle.core_book.proofs.WaitLemmas.{wait_end}
 use Rattle.core_book.proofs.book.Book.leave_wait.Goals as goal
@@ -55,8 +55,7 @@ short c =
 few : (c : After-handles_at-handles) → length c.handles_at-handles.result.now < 2 ^ 32
 few c =
     let w = known c in
-    let less = few_named (shelf_of c.self.inside) c.args.rec.now c.task-task.result.0 c.args.k c.task_of-def.result.now (phase.In c.args.k)
-    c.self.invariant.kept w.parts w.in_it.here (rw (w.in_it.here.stands.0) refl) in
+    let less = few_named (shelf_of c.self.inside) c.task-task.result.0 c.args.k c.task_of-def.result.now c.self.invariant.kept w.parts w.in_it.here.is_def in
     omega (arith, ap (λ (z : List Handle). length z) (named c w))
 
 pub handles_at-handles-requires-clause-within : goal.handles_at-handles-requires-clause-within
@@ -98,8 +97,8 @@ pub tell_each-requires-clause-room : goal.tell_each-requires-clause-room
 tell_each-requires-clause-room c =
     let at = (goal.at.tell_each-requires-clause-room c).After-handles_at-handles in
     let w = known at in
-    let room = wait_told_room (shelf_of c.self.inside) c.args.rec.now c.task-task.result.0 c.args.k c.task_of-def.result.now c.self.invariant.kept w in
-    omega (arith, ap (λ (z : List Handle). length z) (named at w))
+    wait_told_room (shelf_of c.self.inside) c.args.rec.now c.task-task.result.0 c.args.k c.task_of-def.result.now c.handles_at-handles.result.now
+    c.self.invariant.kept w (named at w)
 
 pub status_at-requires-clause-within : goal.status_at-requires-clause-within
 status_at-requires-clause-within c = inner (goal.at.status_at-requires-clause-within c).After-handles_at-handles
@@ -160,9 +159,7 @@ overflow_cast-handles c =
 
 pub note-requires : goal.note-requires
 note-requires c =
-    let w = known (goal.at.note-requires c).After-handles_at-handles in
-    room_at (shelf_of c.self.inside) c.args.rec.now c.task-task.result.0 c.task_of-def.result.now (phase.In c.args.k) (phase.In c.args.k)
-    c.self.invariant.kept w.in_it.here w.in_it.here.stands.0 (omega arith)
+    entry_room (shelf_of c.self.inside) c.task-task.result.0 c.self.invariant.kept (known (goal.at.note-requires c).After-handles_at-handles).in_it.may
 
 -- the insides after the leave
 abbrev later : (c : After-note) → Shelf
@@ -171,12 +168,9 @@ later c = shelf_left (shelf_of c.self.inside) c.task-task.result.0 c.stop.result
 
 moved : (c : After-note) → (w : InWait (shelf_of c.self.inside) c.args.rec.now c.task-task.result.0 c.args.k c.task_of-def.result.now)
     → c.handles_at-handles.result.now ≡ w.parts.handles.items
-    → IsMoved (shelf_of c.self.inside) (later c) c.task-task.result.0
+    → IsMoved (shelf_of c.self.inside) (later c) c.task-task.result.0 w.in_it.here.was
     (left_task (shelf_of c.self.inside) c.task-task.result.0 c.args.k c.task_of-def.result.now w.in_it.here.was)
-    (leave_move (shelf_of c.self.inside).program (state_now (shelf_of c.self.inside)) c.task-task.result.0 c.task_of-def.result.now w.in_it.here.was
-    c.args.k).state
-    (leave_move (shelf_of c.self.inside).program (state_now (shelf_of c.self.inside)) c.task-task.result.0 c.task_of-def.result.now w.in_it.here.was
-    c.args.k).entry
+    (leave_move (shelf_of c.self.inside).program (state_now (shelf_of c.self.inside)) c.task-task.result.0 c.task_of-def.result.now w.in_it.here.was c.args.k)
 moved c w same =
     let s = shelf_of c.self.inside in
     leave_moved s c.args.rec.now c.task-task.result.0 c.args.k c.count_of-from.result (length c.handles_at-handles.result.now) c.task_of-def.result.now
@@ -201,12 +195,11 @@ invariant_of-self c =
     let at = (goal.at.invariant_of-self c).After-handles_at-handles in
     let w = known at in
     let m = moved (goal.at.invariant_of-self c).After-note w (named at w) in
-    let changed = leave_changed s held t c.args.k d c.self.invariant.kept w.in_it in
-    let as_before = bound_kept s _ t d w.in_it.here.was _ _ _ changed m refl in
+    let as_before = bound_kept m refl in
     record {
-      kept = book_after s _ t d w.in_it.here.was _ _ _ c.self.invariant.kept changed m;
+      kept = book_after c.self.invariant.kept m;
       counted = leave_counted s held t c.args.k d c.stop.result _ _ c.self.invariant w.in_it c.stop.ensures
-          (gone_more s _ t d w.in_it.here.was _ _ _ changed m (rw w.in_it.here.stands.0 refl)) as_before;
+          (gone_more m (rw w.in_it.here.stands.0 refl)) as_before;
       binding = binding_kept s _ c.self.invariant as_before;
       numbered = leave_numbered s held t c.args.k d c.stop.result c.self.invariant w.in_it c.stop.ensures;
     }
@@ -221,7 +214,6 @@ returns c =
     let w = known at in
     let same = named at w in
     let m = moved (goal.at.returns c).After-note w same in
-    let changed = leave_changed s held t c.args.k d c.self.invariant.kept w.in_it in
     let left = wait_end s held c.store_received.new.rec c.store_statuses.new.rec c.go.new.self t held.task c.args.k d c.status_at.result
     c.statuses_from.result.now c.handles_at-handles.result.now c.phase_before.result c.self.invariant.kept w same (sym c.task-task.ensures)
     c.store_received.ensures c.status_at.ensures
@@ -229,7 +221,6 @@ returns c =
     (c.count_of-from.ensures ∙ ap (λ (l : List Status). length l) c.deref.ensures.value) (c.deref-2.ensures.value ∙ c.tell_each.ensures.items)
     c.statuses_from.ensures)
     c.store_statuses.ensures c.phase_before.ensures c.go.ensures in
-    makes_move s _ held c.go.new.self t d w.in_it.here.was _ _ _ (book_after s _ t d w.in_it.here.was _ _ _ c.self.invariant.kept changed m) changed m
-    w.in_it.here.who w.in_it.here.program
+    makes_move c.self.invariant.kept m w.in_it.here.is_def w.in_it.here.who w.in_it.here.program
     (leave_record s held c.go.new.self t c.args.k d w.in_it left ∙ sym (left_as s held t d (phase.In c.args.k) w.in_it.here))
-    (leave_stands s held c.go.new.self t c.args.k d w.in_it.here.was left) c.args.self.now c.self.view_is
+    (leave_stands s held c.go.new.self t c.args.k d w.in_it.here.was left) c.self.view_is

@@ -4,7 +4,7 @@ use Rattle.std.specs.Prelude.{vec_capacity}
 use Rattle.std.specs.VecDeque.{deque_capacity}
 use Rattle.core_book.specs.Ledger.{Ledger}
 use Rattle.core_book.proofs.Insides.{shelf_of}
-use Rattle.core_book.proofs.Polled.{Polls, book_polled, takes_notice}
+use Rattle.core_book.proofs.Polled.{Polls, book_polled, poll_room, takes_notice}
 use Rattle.core_book.proofs.book.Book.poll.Goals as goal
 use Rattle.core_book.proofs.book.Book.poll.Goals.{After-note}
 
@@ -18,6 +18,9 @@ polls c = record {
   entry_places = c.note.ensures.places;
   notice_places = omega (arith, c.in-Some.ensures.capacity);
 }
+
+pub note-requires : goal.note-requires
+note-requires c = poll_room (shelf_of c.self.inside) c.in-Some.req c.pop_front.new.self.items c.self.invariant.kept c.in-Some.ensures.items
 
 pub invariant_of-self : goal.invariant_of-self
 invariant_of-self c =

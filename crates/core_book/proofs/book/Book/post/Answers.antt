@@ -3,20 +3,23 @@ use Rattle.std.proofs.Common.{◌≡◌, ◌∙◌, ◌<◌, ℕ, sym, ap, cond,
 use Rattle.std.specs.Prelude.{vec_capacity, ◌==◌, IfSome}
 use Rattle.rt_base.specs.declared.data.ReqNo.{ReqNo}
 use Rattle.rt_base.specs.declared.data.Phase.TheVariants as phase
-use Rattle.rt_base.specs.Operations.{blocks, nth_at, task_no}
+use Rattle.rt_base.specs.Operations.{blocks, nth_at, request, task_no}
+use Rattle.rt_base.specs.Completion.{is_complete}
 use Rattle.task_machine.specs.Owed.{opened}
-use Rattle.core_book.specs.declared.telling.Told.{Told}
-use Rattle.core_book.specs.Kept.{state_now, one_less_for, told_requests}
+use Rattle.book_counts.specs.declared.telling.Told.{Told}
+use Rattle.core_book.specs.Kept.{state_now}
+use Rattle.book_counts.specs.Counted.{one_less_for, told_requests}
 use Rattle.core_book.proofs.Insides.{shelf_of}
-use Rattle.core_book.proofs.Few.{few_operations}
+use Rattle.run_bounds.proofs.Few.{few_operations}
 use Rattle.core_book.proofs.Moved.{book_after, gone_more, makes_move}
-use Rattle.core_book.proofs.Held.{same_program, phases_counted, room_at, place_within}
+use Rattle.core_book.proofs.Held.{same_program, phases_counted, entry_room, place_within}
 use Rattle.core_book.proofs.BookMoves.{left_as}
-use Rattle.core_book.proofs.CallLemmas.{Calls, Answered, calls, call_within, call_sends, call_receives, call_is_new, call_follows, call_changed, call_moved}
+use Rattle.core_book.proofs.CallLemmas.{Calls, Answered, calls, call_within, call_sends, call_receives, call_is_new, call_follows, call_may, call_moved}
 use Rattle.core_book.proofs.CallLemmas.{call_opens, call_left, call_stands, call_pending, post_opens, post_room, posted_bound}
 use Rattle.core_book.proofs.BoundAfter.{bound_kept}
 use Rattle.core_book.proofs.CountCalls.{binding_call, call_counted, length-one_less_for, told_within}
-use Rattle.core_book.proofs.Numbers.{call_number, call_few, call_numbered, numbered_seen}
+use Rattle.core_book.proofs.Numbers.{call_number, call_few, call_numbered}
+use Rattle.book_counts.proofs.Numbers.{numbered_seen}
 use Rattle.core_book.proofs.book.Book.post.Goals as goal
 use Rattle.core_book.proofs.book.Book.post.Goals.{After-next-arg-1, After-post-arg-1, After-who_is_told-told, After-note}
 
@@ -70,20 +73,6 @@ post-partner-requires-clause-fresh c =
     call_is_new (shelf_of c.self.inside) c.args.rec.now c.task-task.result.0 c.args.k c.next.result c.task_of-def.result.now
     c.args.posting
     c.self.invariant.kept call (nth (goal.at.post-partner-requires-clause-fresh c).After-post-arg-1 call)
-
--- there is room for the entry, for a notice, and for what is opened
-room : (c : After-next-arg-1) → length c.self.inside.entries.items < vec_capacity c.self.inside.entries
-room c =
-    let call = at_call c in
-    room_at (shelf_of c.self.inside) c.args.rec.now c.task-task.result.0 c.task_of-def.result.now (phase.At c.args.k) (phase.At c.args.k)
-    c.self.invariant.kept call.here call.at (omega arith)
-
-pub tell-requires : goal.tell-requires
-tell-requires c = record {
-  room =
-      let call = at_call (goal.at.tell-requires c).After-next-arg-1 in
-      post_room (shelf_of c.self.inside) c.args.rec.now c.task-task.result.0 c.args.k c.task_of-def.result.now c.args.posting c.self.invariant.kept call;
-}
 
 -- who is told is a task of the program
 told : (c : After-who_is_told-told) → IfSome c.who_is_told-told.result (λ (found : Told). found.req.task.0 < length c.self.inside.program.value.tasks.items)
@@ -152,7 +141,9 @@ go-requires-clause-goes_to c =
     (at_call (goal.at.go-requires-clause-goes_to c).After-next-arg-1) c.place_after.ensures
 
 pub note-requires : goal.note-requires
-note-requires c = room (goal.at.note-requires c).After-next-arg-1
+note-requires c =
+    entry_room (shelf_of c.self.inside) c.task-task.result.0 c.self.invariant.kept
+    (call_may (shelf_of c.self.inside) c.args.rec.now _ _ _ _ (at_call (goal.at.note-requires c).After-next-arg-1))
 
 pub set-requires : goal.set-requires
 set-requires c =
@@ -162,7 +153,23 @@ set-requires c =
     (told_requests (λ (found : Told). found.waited) c.who_is_told-told.result) in
     omega arith
 
--- what the calls have answered
+-- what the calls have answered, and the count that comes of it
+asked : (c : After-who_is_told-told) → c.next.result ≡ nth_at c.task_of-def.result.now c.args.k
+    → Answered (shelf_of c.self.inside) c.args.rec.now c.task-task.result.0 c.args.k c.next.result
+    (cond (is_complete c.post-partner.new.engine.program c.post-partner.new.engine.exchange (request c.task-task.result.0 c.next.result)) 0 1)
+    c.task_of-def.result.now
+    c.args.posting c.args.cells.items c.post-partner.new.engine c.post-partner.result
+asked c is_nth = record {
+  nth = is_nth;
+  packs = c.requires.packed;
+  program = c.post-partner.ensures.program;
+  exchange = c.post-partner.ensures.exchange;
+  partner_is = c.post-partner.ensures.partner;
+  before = c.post-partner.ensures.before;
+  completed = c.post-partner.ensures.completed;
+  counted = refl;
+}
+
 answered : (c : After-note) → c.next.result ≡ nth_at c.task_of-def.result.now c.args.k
     → Answered (shelf_of c.self.inside) c.args.rec.now c.task-task.result.0 c.args.k c.next.result c.pending-pending.result
     c.task_of-def.result.now
@@ -176,6 +183,18 @@ answered c is_nth = record {
   before = c.post-partner.ensures.before;
   completed = c.post-partner.ensures.completed;
   counted = c.pending-pending.ensures;
+}
+
+-- there is room for the notice
+pub tell-requires : goal.tell-requires
+tell-requires c = record {
+  room =
+      let s = shelf_of c.self.inside in
+      let call = at_call (goal.at.tell-requires c).After-next-arg-1 in
+      let a = asked (goal.at.tell-requires c).After-who_is_told-told (nth (goal.at.tell-requires c).After-post-arg-1 call) in
+      post_room s c.args.rec.now c.task-task.result.0 c.args.k c.next.result _ c.task_of-def.result.now c.args.posting c.args.cells.items
+      c.post-partner.new.engine c.post-partner.result c.args.prog.now c.deref.result.now _ c.self.invariant.kept c.self.invariant.binding.marked call a
+      (same_program s c.args.self.now c.args.prog.now c.self.view_is c.requires.same) c.deref.ensures.value c.who_is_told-told.ensures.told;
 }
 
 -- what the move opens
@@ -214,15 +233,14 @@ invariant_of-self c =
     (c.tell.ensures.items ∙ ap (λ (z : List ReqNo). s.notices ++ z) c.who_is_told-told.ensures.told) c.phase_after.ensures c.note.ensures.items
     (opens (goal.at.invariant_of-self c).After-note call a) c.note.ensures.places c.tell.ensures.places
     (omega (arith, c.clear.ensures.capacity, c.note_some.ensures.places)) in
-    let changed = call_changed s held t k d posting c.self.invariant.kept call in
-    let kept = bound_kept s _ t d call.here.was _ _ _ changed m (posted_bound d k (blocks posting.how) call.here.was) in
+    let kept = bound_kept m (posted_bound d k (blocks posting.how) call.here.was) in
     record {
-      kept = book_after s _ t d call.here.was _ _ _ c.self.invariant.kept changed m;
+      kept = book_after c.self.invariant.kept m;
       counted = call_counted s held t k n count c.waits_after-awaited.result d posting c.args.cells.items engine found c.args.prog.now c.deref.result.now
           c.phase_after.result c.lower_waited.new.waits
           c.set.new.self _ _ c.self.invariant call a same c.deref.ensures.value
           (c.lower_waited.ensures ∙ ap (one_less_for s.waits) c.who_is_told-told.ensures.waited) c.waits_after-awaited.ensures c.set.ensures
-          c.phase_after.ensures (gone_more s _ t d call.here.was _ _ _ changed m (rw call.at refl)) kept;
+          c.phase_after.ensures (gone_more m (rw call.at refl)) kept;
       numbered = call_numbered s held t k n d posting c.phase_after.result c.add.new.self c.self.invariant call c.next.ensures c.add.ensures
           c.phase_after.ensures;
       binding = binding_call s held t k n count d posting c.args.cells.items engine found c.args.prog.now c.lower_bound.new.incomplete _ c.self.invariant call
@@ -247,12 +265,10 @@ returns-clause-moves c =
     (c.tell.ensures.items ∙ ap (λ (z : List ReqNo). s.notices ++ z) c.who_is_told-told.ensures.told) c.phase_after.ensures
     c.note.ensures.items (opens (goal.at.returns-clause-moves c).After-note call a)
     c.note.ensures.places c.tell.ensures.places (omega (arith, c.clear.ensures.capacity, c.note_some.ensures.places)) in
-    let changed = call_changed s held t k d posting c.self.invariant.kept call in
-    makes_move s _ held c.go.new.self t d call.here.was _ _ _ (book_after s _ t d call.here.was _ _ _ c.self.invariant.kept changed m) changed m
-    call.here.who call.here.program
+    makes_move c.self.invariant.kept m call.here.is_def call.here.who call.here.program
     (call_left s held c.go.new.self k d posting c.place_after.result call.posts c.place_after.ensures c.go.ensures
     ∙ sym (left_as s held t d (phase.At k) call.here))
-    (call_stands s held c.go.new.self t k d posting c.place_after.result call c.place_after.ensures c.go.ensures) c.args.self.now c.self.view_is
+    (call_stands s held c.go.new.self t k d posting c.place_after.result call c.place_after.ensures c.go.ensures) c.self.view_is
 
 pub returns-clause-pending : goal.returns-clause-pending
 returns-clause-pending c =

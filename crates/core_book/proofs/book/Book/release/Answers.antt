@@ -10,13 +10,13 @@ use Rattle.core_book.proofs.Insides.{shelf_of}
 use Rattle.core_book.proofs.BookLemmas.{status_count}
 use Rattle.core_book.proofs.BookMoves.{left_as}
 use Rattle.core_book.proofs.Moved.{book_after, gone_more, makes_move, still_held}
-use Rattle.core_book.proofs.Held.{room_at, handed_of, place_within, same_program}
+use Rattle.core_book.proofs.Held.{entry_room, handed_of, place_within, same_program}
 use Rattle.core_book.proofs.BoundAfter.{bound_kept}
 use Rattle.core_book.proofs.BindingMoves.{binding_kept}
 use Rattle.core_book.proofs.CountMoves.{release_counted, some_unreleased}
 use Rattle.core_book.proofs.Numbers.{release_numbered}
 use Rattle.core_book.proofs.ReleaseLemmas.{Releases, LetsGo, releases, late_received, late_told_room, late_count, late_stored, late_tells, release_left}
-use Rattle.core_book.proofs.ReleaseLemmas.{release_stands, saved_now, release_changed, release_moved, whole_back}
+use Rattle.core_book.proofs.ReleaseLemmas.{release_stands, saved_now, release_moved, whole_back}
 use Rattle.core_book.proofs.book.Book.release.Goals as goal
 use Rattle.core_book.proofs.book.Book.release.Goals.{After-note, After-task_of}
 
@@ -87,9 +87,7 @@ release-requires-clause-held c =
 
 pub note-requires : goal.note-requires
 note-requires c =
-    let r = known (goal.at.note-requires c).After-task_of in
-    room_at (shelf_of c.self.inside) c.args.rec.now c.task-task.result.0 c.task_of.result.now phase.Returned phase.Returned c.self.invariant.kept r.here
-    r.here.stands.0 (omega arith)
+    entry_room (shelf_of c.self.inside) c.task-task.result.0 c.self.invariant.kept (known (goal.at.note-requires c).After-task_of).may
 
 -- the memory that was lent comes back with what the release has put there
 back : (c : After-note) → take c.self.inside.memory.len (c.save.new.memory ++ drop (length c.save.new.memory) c.self.inside.memory.items) ≡ c.save.new.memory
@@ -127,6 +125,7 @@ goes c r =
     let until = c.count_of.ensures ∙ ap (λ (l : List Status). length l) c.deref-2.ensures.value in
     let more = late_count s held t held.task d c.take_bound.new.statuses.items c.self.invariant.kept r c.take_bound.ensures.told in
     record {
+      long = long_back c;
       put = back c ∙ saved_now s held c.take_bound.new.rec t d c.args.prog.now _ c.save.new.memory c.self.invariant.kept r (stored c r)
           (same_program s c.args.self.now c.args.prog.now c.self.view_is c.requires.same) c.deref_mut.ensures.value c.save.ensures;
       of_program = c.release.ensures.program;
@@ -154,12 +153,11 @@ invariant_of-self c =
     c.take_bound.new.statuses.items c.note.new.list.items c.set.new.self c.clear.new.self.items (vec_capacity c.note.new.list)
     (vec_capacity c.take_bound.new.statuses) (vec_capacity c.clear.new.self) c.self.invariant.kept r answers c.note.ensures.places
     c.take_bound.ensures.places (omega (arith, c.clear.ensures.capacity)) in
-    let changed = release_changed s held t d _ c.self.invariant.kept r answers.put (long_back noted) in
-    let same = bound_kept s _ t d r.here.was _ _ _ changed m refl in
+    let same = bound_kept m refl in
     record {
-      kept = book_after s _ t d r.here.was _ _ _ c.self.invariant.kept changed m;
+      kept = book_after c.self.invariant.kept m;
       counted = release_counted s held t _ d c.release.new.self.handed c.set.new.self _ _ c.self.invariant r.here c.release.ensures.handed refl c.set.ensures
-          (gone_more s _ t d r.here.was _ _ _ changed m (rw r.here.stands.0 refl)) same;
+          (gone_more m (rw r.here.stands.0 refl)) same;
       numbered = release_numbered s held t d c.self.invariant r.here;
       binding = binding_kept s _ c.self.invariant same;
     }
@@ -177,8 +175,6 @@ returns c =
     c.take_bound.new.statuses.items c.note.new.list.items c.set.new.self c.clear.new.self.items (vec_capacity c.note.new.list)
     (vec_capacity c.take_bound.new.statuses) (vec_capacity c.clear.new.self) c.self.invariant.kept r answers c.note.ensures.places
     c.take_bound.ensures.places (omega (arith, c.clear.ensures.capacity)) in
-    let changed = release_changed s held t d _ c.self.invariant.kept r answers.put (long_back noted) in
-    makes_move s _ held c.go.new.self t d r.here.was _ _ _ (book_after s _ t d r.here.was _ _ _ c.self.invariant.kept changed m) changed m r.here.who
-    r.here.program
+    makes_move c.self.invariant.kept m r.here.is_def r.here.who r.here.program
     (release_left s held c.take_bound.new.rec c.go.new.self t d r (stored noted r) c.go.ensures ∙ sym (left_as s held t d phase.Returned r.here))
-    (release_stands s held c.take_bound.new.rec c.go.new.self t d r (stored noted r) c.go.ensures) c.args.self.now c.self.view_is
+    (release_stands s held c.take_bound.new.rec c.go.new.self t d r (stored noted r) c.go.ensures) c.self.view_is

@@ -11,8 +11,8 @@ use Rattle.task_machine.specs.Legal.{final}
 use Rattle.core_book.specs.Kept.{state_now}
 use Rattle.core_book.proofs.Insides.{shelf_of}
 use Rattle.core_book.proofs.Moved.{book_after, gone_more, makes_move}
-use Rattle.core_book.proofs.Held.{Held, held_as, own, room_at, place_within}
-use Rattle.core_book.proofs.BookMoves.{left_as, returned_task, ret_changed, ret_moved}
+use Rattle.core_book.proofs.Held.{Held, held_as, own, entry_room, place_within}
+use Rattle.core_book.proofs.BookMoves.{left_as, may_return, returned_task, ret_moved}
 use Rattle.core_book.proofs.BoundAfter.{bound_kept}
 use Rattle.core_book.proofs.BindingMoves.{binding_kept}
 use Rattle.core_book.proofs.CountMoves.{ret_counted}
@@ -32,7 +32,7 @@ here c = held_as (shelf_of c.self.inside) c.args.rec.now c.task-task.result.0 ph
 pub note-requires : goal.note-requires
 note-requires c =
     let h = here (goal.at.note-requires c).After-task-task in
-    room_at (shelf_of c.self.inside) c.args.rec.now c.task-task.result.0 _ phase.Ended phase.Ended c.self.invariant.kept h h.stands.0 (omega arith)
+    entry_room (shelf_of c.self.inside) c.task-task.result.0 c.self.invariant.kept (may_return (shelf_of c.self.inside) c.args.rec.now _ _ h)
 
 pub at-open-requires : goal.at-open-requires
 at-open-requires c =
@@ -58,12 +58,11 @@ invariant_of-self c =
     let h = here at in
     let m = ret_moved s held t d c.note.new.list.items c.set.new.self c.clear.new.self.items _ (vec_capacity c.clear.new.self)
     c.self.invariant.kept h c.note.ensures.items c.clear.ensures.items c.note.ensures.places (omega (arith, c.clear.ensures.capacity)) in
-    let changed = ret_changed s held t d c.self.invariant.kept h in
-    let same = bound_kept s _ t d h.was _ _ _ changed m refl in
+    let same = bound_kept m refl in
     record {
-      kept = book_after s _ t d h.was _ _ _ c.self.invariant.kept changed m;
+      kept = book_after c.self.invariant.kept m;
       counted = ret_counted s held t c.at-open.result d c.set.new.self _ _ c.self.invariant h c.at-open.ensures c.set.ensures
-          (gone_more s _ t d h.was _ _ _ changed m (rw h.stands.0 refl)) same;
+          (gone_more m (rw h.stands.0 refl)) same;
       binding = binding_kept s _ c.self.invariant same;
       numbered = ret_numbered s held t d c.self.invariant h;
     }
@@ -78,7 +77,5 @@ returns c =
     let h = here at in
     let m = ret_moved s held t d c.note.new.list.items c.set.new.self c.clear.new.self.items _ (vec_capacity c.clear.new.self)
     c.self.invariant.kept h c.note.ensures.items c.clear.ensures.items c.note.ensures.places (omega (arith, c.clear.ensures.capacity)) in
-    let changed = ret_changed s held t d c.self.invariant.kept h in
-    makes_move s _ held c.go.new.self t d h.was _ _ _ (book_after s _ t d h.was _ _ _ c.self.invariant.kept changed m) changed m h.who h.program
-    (c.go.ensures ∙ sym (left_as s held t d phase.Ended h))
-    (subst (λ (z : Record). StandsAs d z.phase z.copy (returned_task h.was)) (sym c.go.ensures) (refl, h.stands.1)) c.args.self.now c.self.view_is
+    makes_move c.self.invariant.kept m h.is_def h.who h.program (c.go.ensures ∙ sym (left_as s held t d phase.Ended h))
+    (subst (λ (z : Record). StandsAs d z.phase z.copy (returned_task h.was)) (sym c.go.ensures) (refl, h.stands.1)) c.self.view_is

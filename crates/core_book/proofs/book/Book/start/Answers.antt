@@ -1,18 +1,16 @@
 -- The book after a start, and the record.
 use Rattle.std.proofs.Common.{◌≡◌, ◌∙◌, ap, sym, slice_get, Some, true, refl, arith}
 use Rattle.rt_base.specs.declared.data.Phase.TheVariants as phase
-use Rattle.rt_base.specs.declared.data.Entry.TheVariants as entry
-use Rattle.rt_base.specs.Operations.{task_no}
 use Rattle.rt_base.specs.MayMove.{MayMove}
 use Rattle.task_machine.specs.Machine.{start_move}
 use Rattle.std.specs.Prelude.{vec_capacity}
 use Rattle.core_book.specs.Ledger.{Ledger}
 use Rattle.core_book.specs.Kept.{Shelf, state_now}
-use Rattle.core_book.proofs.Few.{few_operations}
+use Rattle.run_bounds.proofs.Few.{few_operations}
 use Rattle.core_book.proofs.Insides.{shelf_of}
 use Rattle.core_book.proofs.Moved.{IsMoved, book_after, gone_more, makes_move}
-use Rattle.core_book.proofs.Held.{Held, held_at, may_move, room_at, same_program}
-use Rattle.core_book.proofs.BookMoves.{left_as, shelf_after, started_task, start_changed, start_moved, start_left, start_stands}
+use Rattle.core_book.proofs.Held.{Held, held_at, may_move, entry_room, same_program}
+use Rattle.core_book.proofs.BookMoves.{left_as, shelf_after, started_task, start_moved, start_left, start_stands}
 use Rattle.core_book.proofs.BoundAfter.{bound_kept}
 use Rattle.core_book.proofs.BindingMoves.{binding_kept}
 use Rattle.core_book.proofs.CountMoves.{start_counted}
@@ -42,13 +40,13 @@ later c = shelf_after (shelf_of c.self.inside) c.task-task.result.0 c.stop.resul
     c.clear.new.self.items (vec_capacity c.note.new.list) (vec_capacity c.clear.new.self)
 
 moved : (c : After-note) → (h : Held (shelf_of c.self.inside) c.args.rec.now c.task-task.result.0 c.task_of-def.result.now phase.Waiting)
+    → MayMove (shelf_of c.self.inside).program (state_now (shelf_of c.self.inside)) c.task-task.result.0
     → slice_get (shelf_of c.self.inside).ready.handed c.task-task.result.0 ≡ Some true
-    → IsMoved (shelf_of c.self.inside) (later c) c.task-task.result.0 (started_task (shelf_of c.self.inside) c.task_of-def.result.now h.was)
-    (start_move (shelf_of c.self.inside).program (state_now (shelf_of c.self.inside)) c.task-task.result.0 c.task_of-def.result.now h.was).state
-    (entry.Start (task_no c.task-task.result.0))
-moved c h handed =
+    → IsMoved (shelf_of c.self.inside) (later c) c.task-task.result.0 h.was (started_task (shelf_of c.self.inside) c.task_of-def.result.now h.was)
+    (start_move (shelf_of c.self.inside).program (state_now (shelf_of c.self.inside)) c.task-task.result.0 c.task_of-def.result.now h.was)
+moved c h may handed =
     start_moved (shelf_of c.self.inside) c.args.rec.now c.task-task.result.0 c.task_of-def.result.now c.stop.result c.note.new.list.items
-    c.clear.new.self.items (vec_capacity c.note.new.list) (vec_capacity c.clear.new.self) c.self.invariant.kept h handed
+    c.clear.new.self.items (vec_capacity c.note.new.list) (vec_capacity c.clear.new.self) c.self.invariant.kept h may handed
     c.stop.ensures c.note.ensures.items c.clear.ensures.items c.note.ensures.places (omega (arith, c.clear.ensures.capacity))
 
 pub stop-requires-clause-few : goal.stop-requires-clause-few
@@ -56,9 +54,7 @@ stop-requires-clause-few c = few_operations c.args.prog.now c.task-task.result.0
 
 pub note-requires : goal.note-requires
 note-requires c =
-    let h = here (goal.at.note-requires c).After-task_of-def in
-    room_at (shelf_of c.self.inside) c.args.rec.now c.task-task.result.0 c.task_of-def.result.now phase.Waiting phase.Waiting c.self.invariant.kept h
-    h.stands (omega arith)
+    entry_room (shelf_of c.self.inside) c.task-task.result.0 c.self.invariant.kept (may (goal.at.note-requires c).After-task_of-def)
 
 pub invariant_of-self : goal.invariant_of-self
 invariant_of-self c =
@@ -67,13 +63,12 @@ invariant_of-self c =
     let d = c.task_of-def.result.now in
     let at = (goal.at.invariant_of-self c).After-task_of-def in
     let h = here at in
-    let m = moved (goal.at.invariant_of-self c).After-note h (mine at) in
-    let changed = start_changed s c.args.rec.now t d c.self.invariant.kept h (may at) in
-    let same = bound_kept s _ t d h.was _ _ _ changed m refl in
+    let m = moved (goal.at.invariant_of-self c).After-note h (may at) (mine at) in
+    let same = bound_kept m refl in
     record {
-      kept = book_after s _ t d h.was _ _ _ c.self.invariant.kept changed m;
+      kept = book_after c.self.invariant.kept m;
       counted = start_counted s c.args.rec.now t d c.stop.result _ _ c.self.invariant h (mine at) c.stop.ensures
-          (gone_more s _ t d h.was _ _ _ changed m (rw h.stands refl)) same;
+          (gone_more m (rw h.stands refl)) same;
       binding = binding_kept s _ c.self.invariant same;
       numbered = start_numbered s c.args.rec.now t d c.stop.result c.self.invariant h c.stop.ensures;
     }
@@ -85,9 +80,8 @@ returns c =
     let d = c.task_of-def.result.now in
     let at = (goal.at.returns c).After-task_of-def in
     let h = here at in
-    let m = moved (goal.at.returns c).After-note h (mine at) in
-    let changed = start_changed s c.args.rec.now t d c.self.invariant.kept h (may at) in
+    let m = moved (goal.at.returns c).After-note h (may at) (mine at) in
     let left = start_left s c.args.rec.now c.load.new.self c.go.new.self t d c.phase_before.result c.deref.result.now c.args.prog.now c.self.invariant.kept h
     (same_program s c.args.self.now c.args.prog.now c.self.view_is c.requires.same) c.deref.ensures.value c.load.ensures c.phase_before.ensures c.go.ensures in
-    makes_move s _ c.args.rec.now c.go.new.self t d h.was _ _ _ (book_after s _ t d h.was _ _ _ c.self.invariant.kept changed m) changed m h.who h.program
-    (left ∙ sym (left_as s c.args.rec.now t d phase.Waiting h)) (start_stands s c.args.rec.now c.go.new.self d h.was left) c.args.self.now c.self.view_is
+    makes_move c.self.invariant.kept m h.is_def h.who h.program (left ∙ sym (left_as s c.args.rec.now t d phase.Waiting h))
+    (start_stands s c.args.rec.now c.go.new.self d h.was left) c.self.view_is

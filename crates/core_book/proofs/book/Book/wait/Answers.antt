@@ -6,14 +6,15 @@ use Rattle.rt_base.specs.declared.data.Handle.{Handle}
 use Rattle.rt_base.specs.declared.data.Phase.TheVariants as phase
 use Rattle.rt_base.specs.Operations.{named_requests}
 use Rattle.task_machine.specs.Machine.{wait_move, open_ones}
-use Rattle.core_book.specs.Kept.{Shelf, state_now, to_tell}
+use Rattle.core_book.specs.Kept.{Shelf, state_now}
 use Rattle.core_book.proofs.Insides.{shelf_of}
 use Rattle.core_book.proofs.Moved.{IsMoved, book_after, gone_more, makes_move}
-use Rattle.core_book.proofs.Held.{room_at, place_within}
+use Rattle.core_book.proofs.Held.{entry_room, place_within}
+use Rattle.core_book.proofs.CallLemmas.{before_may}
 use Rattle.core_book.proofs.BookMoves.{left_as}
 use Rattle.core_book.proofs.BoundAfter.{bound_kept}
 use Rattle.core_book.proofs.BindingMoves.{binding_kept}
-use Rattle.core_book.proofs.WaitLemmas.{Waits, waits, named_are, wait_room, few_named, shelf_waiting, waiting_in, wait_changed, wait_moved, wait_counted}
+use Rattle.core_book.proofs.WaitLemmas.{Waits, waits, named_are, wait_room, few_named, shelf_waiting, waiting_in, wait_moved, wait_counted}
 use Rattle.core_book.proofs.WaitLemmas.{wait_numbered, wait_left, wait_stands, wait_pending}
 use Rattle.core_book.proofs.book.Book.wait.Goals as goal
 use Rattle.core_book.proofs.book.Book.wait.Goals.{After-clear, After-note}
@@ -40,8 +41,7 @@ pub open_among-pending-requires : goal.open_among-pending-requires
 open_among-pending-requires c =
     let at = (goal.at.open_among-pending-requires c).After-clear in
     let w = known at in
-    let few = few_named (shelf_of c.self.inside) c.args.rec.now c.task-task.result.0 c.args.k c.task_of.result.now (phase.At c.args.k)
-    c.self.invariant.kept w.parts w.it.here (ap (to_tell c.task_of.result.now) w.it.at) in
+    let few = few_named (shelf_of c.self.inside) c.task-task.result.0 c.args.k c.task_of.result.now c.self.invariant.kept w.parts w.it.here.is_def in
     let same = ap (λ (z : List Handle). length z) (named at w) in
     record { few = omega arith }
 
@@ -62,9 +62,8 @@ set-requires c =
 
 pub note-requires : goal.note-requires
 note-requires c =
-    let w = known (goal.at.note-requires c).After-clear in
-    room_at (shelf_of c.self.inside) c.args.rec.now c.task-task.result.0 c.task_of.result.now (phase.At c.args.k) (phase.At c.args.k) c.self.invariant.kept
-    w.it.here w.it.at (omega arith)
+    entry_room (shelf_of c.self.inside) c.task-task.result.0 c.self.invariant.kept
+    (before_may (shelf_of c.self.inside) c.args.rec.now _ _ _ _ (known (goal.at.note-requires c).After-clear).it)
 
 -- the insides after the call
 abbrev later : (c : After-note) → Shelf
@@ -73,11 +72,9 @@ later c = shelf_waiting (shelf_of c.self.inside) c.task-task.result.0 c.args.k c
 
 moved : (c : After-note) → (w : Waits (shelf_of c.self.inside) c.args.rec.now c.task-task.result.0 c.args.k c.task_of.result.now)
     → c.handles_at-handles.result.now ≡ w.parts.handles.items
-    → IsMoved (shelf_of c.self.inside) (later c) c.task-task.result.0 (waiting_in c.args.k w.it.here.was)
+    → IsMoved (shelf_of c.self.inside) (later c) c.task-task.result.0 w.it.here.was (waiting_in c.args.k w.it.here.was)
     (wait_move (shelf_of c.self.inside).program (state_now (shelf_of c.self.inside)) c.task-task.result.0 w.it.here.was c.args.k
-    (named_requests c.task-task.result.0 w.parts.handles.items)).state
-    (wait_move (shelf_of c.self.inside).program (state_now (shelf_of c.self.inside)) c.task-task.result.0 w.it.here.was c.args.k
-    (named_requests c.task-task.result.0 w.parts.handles.items)).entry
+    (named_requests c.task-task.result.0 w.parts.handles.items))
 moved c w same =
     let s = shelf_of c.self.inside in
     wait_moved s c.args.rec.now c.task-task.result.0 c.args.k c.open_among-pending.result c.task_of.result.now c.handles_at-handles.result.now
@@ -97,12 +94,11 @@ invariant_of-self c =
     let w = known at in
     let same = named at w in
     let m = moved (goal.at.invariant_of-self c).After-note w same in
-    let changed = wait_changed s held t c.args.k d c.self.invariant.kept w in
-    let as_before = bound_kept s _ t d w.it.here.was _ _ _ changed m refl in
+    let as_before = bound_kept m refl in
     record {
-      kept = book_after s _ t d w.it.here.was _ _ _ c.self.invariant.kept changed m;
+      kept = book_after c.self.invariant.kept m;
       counted = wait_counted s held t c.args.k c.open_among-pending.result d c.handles_at-handles.result.now c.set.new.self _ _ c.self.invariant w same
-          c.open_among-pending.ensures c.set.ensures (gone_more s _ t d w.it.here.was _ _ _ changed m (rw w.it.at refl)) as_before;
+          c.open_among-pending.ensures c.set.ensures (gone_more m (rw w.it.at refl)) as_before;
       binding = binding_kept s _ c.self.invariant as_before;
       numbered = wait_numbered s held t c.args.k d c.self.invariant w;
     }
@@ -116,11 +112,9 @@ returns-clause-moves c =
     let at = (goal.at.returns-clause-moves c).After-clear in
     let w = known at in
     let m = moved (goal.at.returns-clause-moves c).After-note w (named at w) in
-    let changed = wait_changed s held t c.args.k d c.self.invariant.kept w in
-    makes_move s _ held c.go.new.self t d w.it.here.was _ _ _ (book_after s _ t d w.it.here.was _ _ _ c.self.invariant.kept changed m) changed m
-    w.it.here.who w.it.here.program
+    makes_move c.self.invariant.kept m w.it.here.is_def w.it.here.who w.it.here.program
     (wait_left s held c.go.new.self t c.args.k d w c.go.ensures ∙ sym (left_as s held t d (phase.At c.args.k) w.it.here))
-    (wait_stands s held c.go.new.self t c.args.k d w c.go.ensures) c.args.self.now c.self.view_is
+    (wait_stands s held c.go.new.self t c.args.k d w c.go.ensures) c.self.view_is
 
 pub returns-clause-pending : goal.returns-clause-pending
 returns-clause-pending c =
