@@ -6,7 +6,7 @@ use Rattle.task_tree.specs.declared.tree.Stmt.{Stmt}
 use Rattle.task_tree.specs.Blocks.{Block, Top, written, Nested}
 use Rattle.task_parse.specs.Trees.{IsTree, IsReason}
 use Rattle.task_parse.specs.declared.refusal.ParseRefusal.{ParseRefusal}
-use Rattle.tampi_top.specs.declared.words.Command.{Command}
+use Rattle.call_words.specs.declared.command.Command.{Command}
 use Rattle.tampi_top.specs.declared.accepted.Unaccepted.{Unaccepted}
 use Rattle.tampi_top.specs.declared.accepted.Unaccepted.TheVariants as unaccepted
 use Rattle.tampi_top.specs.Accepted.{said_by, Unrolls}

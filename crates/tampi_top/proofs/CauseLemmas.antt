@@ -1,5 +1,6 @@
 -- What is due of a told text is one thing alone.
-use Rattle.std.proofs.Common.{◌≡◌, ℕ, ◌+◌, ◌≤◌, List, [], length, Option, Some, None, Result, Ok, Err, refl, ap, inl, inr, sym, ◌∙◌, subst, arith, length-append}
+use Rattle.std.proofs.Common.{◌≡◌, ℕ, ◌+◌, ◌≤◌, List, [], length, Option, Some, None, Result, Ok, Err, refl, ap, inl, inr, sym, ◌∙◌, subst, arith}
+use Rattle.std.proofs.Common.{length-append}
 use Rattle.rt_base.specs.declared.data.Status.{Status}
 use Rattle.rt_base.specs.declared.data.Entry.{Entry}
 use Rattle.rt_base.specs.declared.data.Program.{Program}
@@ -12,13 +13,13 @@ use Rattle.task_tree.specs.Blocks.{Block, written}
 use Rattle.task_tree.specs.Laws.{OneTextInBlocks}
 use Rattle.task_unroll.specs.declared.refusal.ExpandRefusal.{ExpandRefusal}
 use Rattle.task_unroll.specs.declared.refusal.ExpandRefusal.TheVariants as unrolling
-use Rattle.tampi_top.specs.declared.words.Command.{Command}
+use Rattle.call_words.specs.declared.command.Command.{Command}
 use Rattle.tampi_top.specs.declared.ending.Verdict.{Verdict}
 use Rattle.tampi_top.specs.declared.ending.Refusal.{Refusal}
 use Rattle.tampi_top.specs.declared.ending.Refusal.TheVariants as refusal
 use Rattle.tampi_top.specs.declared.ending.Ending.{Ending}
 use Rattle.tampi_top.specs.declared.ending.Ending.TheVariants as ending
-use Rattle.tampi_top.specs.Words.{command}
+use Rattle.call_words.specs.Words.{command}
 use Rattle.tampi_top.specs.Input.{IsReadWhole, IsTooLong}
 use Rattle.tampi_top.specs.Accepted.{said_by, Unrolls, IsProgramText, IsFaultText, IsLimitText}
 use Rattle.tampi_top.specs.Due.{Call, IsRun, IsText, IsRefusedText, IsDue}

@@ -1,10 +1,10 @@
 -- What a call owes, from what its text asks for.
 use Rattle.std.proofs.Common.{◌≡◌, ℕ, ◌≤◌, List, length, Some}
-use Rattle.tampi_top.specs.declared.words.Command.{Command}
+use Rattle.call_words.specs.declared.command.Command.{Command}
 use Rattle.tampi_top.specs.declared.ending.Refusal.TheVariants as refusal
 use Rattle.tampi_top.specs.declared.decided.Due.{Due}
 use Rattle.tampi_top.specs.declared.decided.Due.TheVariants as due
-use Rattle.tampi_top.specs.Words.{command}
+use Rattle.call_words.specs.Words.{command}
 use Rattle.tampi_top.specs.Input.{IsReadWhole}
 use Rattle.tampi_top.specs.Due.{Call}
 use Rattle.tampi_top.specs.Decided.{IsOfText, IsDecided}

@@ -8,7 +8,7 @@ use Rattle.task_parse.specs.Trees.{IsTree, IsFirstFault}
 use Rattle.task_unroll.specs.declared.refusal.ExpandRefusal.{ExpandRefusal}
 use Rattle.task_unroll.specs.declared.refusal.ExpandRefusal.TheVariants as unrolling
 use Rattle.task_unroll.specs.Ranks.{program}
-use Rattle.tampi_top.specs.declared.words.Command.{Command}
+use Rattle.call_words.specs.declared.command.Command.{Command}
 
 -- what unrolling gives of a text in blocks, for the command's ranks and eager limit
 abbrev pub said_by : Block → Command → Result Program ExpandRefusal

@@ -1,7 +1,7 @@
 -- What a call was found to owe. No public clause cites this module.
 use Rattle.std.specs.Prelude.{ℕ, List, ⊤}
 use Rattle.rt_base.specs.declared.data.Program.{Program}
-use Rattle.tampi_top.specs.declared.words.Command.{Command}
+use Rattle.call_words.specs.declared.command.Command.{Command}
 use Rattle.tampi_top.specs.declared.decided.Due.{Due}
 use Rattle.tampi_top.specs.declared.decided.Due.TheVariants as due
 use Rattle.tampi_top.specs.Accepted.{IsProgramText}

@@ -7,14 +7,14 @@ use Rattle.rt_base.specs.declared.data.Program.{Program}
 use Rattle.rt_base.specs.Outside.{Rose}
 use Rattle.rt_base.specs.State.{State, Task}
 use Rattle.task_machine.specs.Legal.{final, IsLegal, IsQuiet, IsFinished, IsStuck}
-use Rattle.tampi_top.specs.declared.words.Command.{Command}
+use Rattle.call_words.specs.declared.command.Command.{Command}
 use Rattle.tampi_top.specs.declared.ending.Refusal.{Refusal}
 use Rattle.tampi_top.specs.declared.ending.Refusal.TheVariants as refusal
 use Rattle.tampi_top.specs.declared.ending.Verdict.{Verdict}
 use Rattle.tampi_top.specs.declared.ending.Verdict.TheVariants as verdict
 use Rattle.tampi_top.specs.declared.ending.Ending.{Ending}
 use Rattle.tampi_top.specs.declared.ending.Ending.TheVariants as ending
-use Rattle.tampi_top.specs.Words.{command}
+use Rattle.call_words.specs.Words.{command}
 use Rattle.tampi_top.specs.Input.{IsReadWhole, IsTooLong, IsFrontTaken}
 use Rattle.tampi_top.specs.Report.{report}
 use Rattle.tampi_top.specs.Ending.{refusal_text}

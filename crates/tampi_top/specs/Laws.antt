@@ -4,12 +4,12 @@ use Rattle.rt_base.specs.declared.data.Status.{Status}
 use Rattle.rt_base.specs.declared.data.Entry.{Entry}
 use Rattle.rt_base.specs.declared.data.Program.{Program}
 use Rattle.rt_base.specs.Outside.{Rose}
-use Rattle.tampi_top.specs.declared.words.Command.{Command}
+use Rattle.call_words.specs.declared.command.Command.{Command}
 use Rattle.tampi_top.specs.declared.ending.Verdict.{Verdict}
 use Rattle.tampi_top.specs.declared.ending.Ending.{Ending}
 use Rattle.tampi_top.specs.declared.ending.Ending.TheVariants as ending
 use Rattle.tampi_top.specs.declared.ending.Refusal.{Refusal}
-use Rattle.tampi_top.specs.Words.{command}
+use Rattle.call_words.specs.Words.{command}
 use Rattle.tampi_top.specs.Accepted.{IsProgramText}
 use Rattle.tampi_top.specs.Due.{Call, IsRefusedText, IsDue}
 

@@ -1,5 +1,3 @@
-pub mod Words
-pub mod Settings
 pub mod Input
 pub mod Report
 pub mod Ending

@@ -3,7 +3,7 @@ use Rattle.std.specs.Prelude.{◌≡◌, ℕ, List, Result, Ok, Err, ⊤}
 use Rattle.rt_base.specs.declared.data.Program.{Program}
 use Rattle.task_tree.specs.Blocks.{Block}
 use Rattle.task_unroll.specs.declared.refusal.ExpandRefusal.TheVariants as unrolling
-use Rattle.tampi_top.specs.declared.words.Command.{Command}
+use Rattle.call_words.specs.declared.command.Command.{Command}
 use Rattle.tampi_top.specs.declared.accepted.Unaccepted.{Unaccepted}
 use Rattle.tampi_top.specs.declared.accepted.Unaccepted.TheVariants as unaccepted
 use Rattle.tampi_top.specs.Accepted.{said_by, IsProgramText, IsFaultText, IsLimitText}

@@ -4,9 +4,9 @@ ghost use Rattle.rt_base.specs.declared.data.Program.{Program};
 ghost use Rattle.rt_base.specs.WellFormed.{WellFormed};
 ghost use Rattle.task_tree.specs.Blocks.{Block, Top, written, Nested};
 ghost use Rattle.tampi_top.specs.Whys.{IsFoundOf, IsFound};
-ghost use Rattle.tampi_top.specs.Settings.{IsInRange};
+ghost use Rattle.call_words.specs.Words.{IsInRange};
 
-use crate::words::Command;
+use call_words::Command;
 use rt_base::{FaultKind, LimitName, Program};
 use std::alloc::Global;
 use task_expand::{ExpandRefusal, expand};

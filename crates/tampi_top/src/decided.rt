@@ -1,13 +1,13 @@
 //! What a call owes, before anything is written.
 ghost use Rattle.std.specs.Prelude.{◌≤◌, length};
-ghost use Rattle.tampi_top.specs.Settings.{IsInRange};
+ghost use Rattle.call_words.specs.Words.{IsInRange};
 ghost use Rattle.tampi_top.specs.Decided.{IsOfText, IsDecided};
 
 use crate::accepted::{Unaccepted, program_of};
 use crate::ending::Refusal;
 use crate::reading::{Taken, read_text};
 use crate::run::{Run, run_of};
-use crate::words::{Command, command_of};
+use call_words::{Command, command_of};
 use rt_base::ByteSource;
 use std::alloc::Global;
 
@@ -46,13 +46,14 @@ pub fn due_of<S: ByteSource>(alloc: Global, words: &[String], input: &mut S) -> 
       now = S.faults input.new;
     }) result }
 {
-    match command_of(words) {
-        None => Due::Refused(Refusal::Words),
-        Some(asked) => match read_text(alloc, input) {
+    match command_of(alloc, words) {
+        Ok(None) => Due::Refused(Refusal::Words),
+        Ok(Some(asked)) => match read_text(alloc, input) {
             Taken::Whole(text) => due_of_text(alloc, text.as_slice(), asked),
             Taken::TooLong => Due::Refused(Refusal::TooLong),
             Taken::Fault => Due::Refused(Refusal::ReadFault),
             Taken::Memory => Due::Memory,
         },
+        Err(_) => Due::Memory,
     }
 }

@@ -10,7 +10,6 @@ mod refusing;
 mod report;
 mod run;
 mod top;
-mod words;
 mod writing;
 
 pub use top::{Outcome, tampi};

@@ -1,0 +1,11 @@
+//! The words of a call: one table of options, and the command that the words give.
+#![tactic(auto)]
+
+mod command;
+mod items;
+mod numbers;
+mod options;
+#[cfg(test)]
+mod tests;
+
+pub use command::{Command, command_of};
