@@ -1,0 +1,10 @@
+pub mod Insides
+pub mod Keeping
+pub mod Adding
+pub mod Looking
+pub mod Moving
+pub mod Offering
+pub mod Polling
+pub mod Finishing
+pub mod Opening
+pub mod Sent

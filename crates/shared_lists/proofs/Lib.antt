@@ -1,0 +1,5 @@
+pub mod Pairs
+pub mod Fronts
+pub mod Numbers
+pub mod Since
+pub mod Offers

@@ -1,0 +1,4 @@
+pub mod Deeds
+pub mod Sound
+pub mod Said
+pub mod Laws
