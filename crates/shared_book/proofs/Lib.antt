@@ -1,0 +1,6 @@
+pub mod Moves
+pub mod Calling
+pub mod Sections
+pub mod Pairing
+pub mod Issuing
+pub mod Sent
