@@ -7,6 +7,7 @@ mod Calls
 mod Keeps
 mod Replies
 mod Known
+mod Cuts
 mod Ways
 mod Orders
 pub mod Standings

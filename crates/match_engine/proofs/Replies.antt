@@ -382,7 +382,7 @@ mapped_twice f g None = refl
 mapped_twice f g (Some x) = refl
 
 -- as many slots as the program has requests
-pub slots_counted : (program : Program) (slots : List (List Slot)) → WellFormed program → slots ≡ fresh_slots program → sum_by length slots < 2 ^ 63
+pub slots_counted : (program : Program) (slots : List (List Slot)) → WellFormed program → slots ≡ fresh_slots program → sum_by length slots < 2 ^ 32
 slots_counted program slots well is =
     omega (
       arith,

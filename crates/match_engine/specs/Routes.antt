@@ -1,6 +1,6 @@
 -- Which selectors are known at each rank, and which lanes the posting of each request uses. No public clause cites this module.
 use Rattle.std.specs.Prelude.{◌≡◌, ℕ, ◌<◌, ◌==◌, ◌&&◌, List, [], length, map, slice_get, slice_index_or, All, Option, None, option_map, option_and_then}
-use Rattle.std.specs.Prelude.{IfSome, if◌then◌else◌, ⊤}
+use Rattle.std.specs.Prelude.{◌∷◌, slice_range, IfSome, if◌then◌else◌, ⊤}
 use Rattle.rt_base.specs.declared.data.ReqNo.{ReqNo}
 use Rattle.rt_base.specs.declared.data.Peer.{Peer}
 use Rattle.rt_base.specs.declared.data.Peer.TheVariants as peer
@@ -70,6 +70,16 @@ row_of keys row = map (λ (slot : Slot). way_by keys slot.call) row
 -- the ways of all requests, by task
 abbrev pub ways_of : List (List Selector) → List (List Slot) → List (List Way)
 ways_of keys slots = map (row_of keys) slots
+
+-- where the ways of a task end: where those of the next begin, and with the last task at the end of all
+abbrev pub end_of : List Way → List ℕ → ℕ
+end_of ways [] = length ways
+end_of ways (first ∷ firsts) = first
+
+-- the ways of each task, where all stand in one list and those of each task begin at its first place
+abbrev pub cut : List Way → List ℕ → List (List Way)
+cut ways [] = []
+cut ways (first ∷ firsts) = slice_range ways first (end_of ways firsts) ∷ cut ways firsts
 
 -- the way of a request
 abbrev pub way_at : List (List Way) → ReqNo → Option Way

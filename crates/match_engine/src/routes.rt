@@ -1,6 +1,6 @@
 //! The lanes that the posting of each request uses.
 
-ghost use Rattle.std.specs.Prelude.{◌≡◌, ℕ, List, map, length, vec_items, Some, IfOk, IsSome};
+ghost use Rattle.std.specs.Prelude.{◌≡◌, ◌<◌, ◌^◌, ◌++◌, length, sum_by, Some, IfOk, IsSome};
 ghost use Rattle.match_lanes.specs.Selectors.{lane_in, doors_by};
 ghost use Rattle.match_engine.specs.Routes.{known_at, way_by, way_to, way_in, way_at, ways_of, row_of, HasDoors, HasLane, IsDoors, IsLane};
 
@@ -21,29 +21,38 @@ pub enum Way {
     Nowhere,
 }
 
-/// The way of each request of the program, by task.
+/// The way of each request of the program: all in one list, task by task, and where those of each task begin.
 #[derive(Drop)]
 pub struct Routes {
-    rows: Vec<Vec<Way>>,
+    firsts: Vec<u32>,
+    ways: Vec<Way>,
 }
 
 impl Model for Routes {
-    ghost use Rattle.std.specs.Prelude.{List, map, vec_items};
+    ghost use Rattle.std.specs.Prelude.{List};
     ghost use Rattle.match_engine.specs.declared.routes.Way as way;
+    ghost use Rattle.match_engine.specs.Routes.{cut};
 
     ghost Value = { List (List way.Way) };
 
-    ghost view = { λ r. map vec_items r.rows.items };
+    ghost view = { λ r. cut r.ways.items r.firsts.items };
 }
 
 impl Routes {
-    /// The ways of all requests, where these selectors are known at each rank. In expected constant time for each request.
+    /// The ways of all requests, where these selectors are known at each rank and nothing is posted.
+    /// In expected constant time for each request.
     pub fn build(alloc: Global, slots: &Slots, keys: &[Keys]) -> Result<Self, AllocError>
+        requires { sum_by length slots.now < 2 ^ 32 }
         ensures { IfOk result (λ routes. routes ≡ ways_of keys.now slots.now) }
     {
-        Ok(Routes {
-            rows: rows_of(alloc, slots.rows(), keys)?,
-        })
+        let rows = slots.rows();
+        let mut firsts = Vec::with_capacity(alloc, rows.len())?;
+        let mut ways = Vec::with_capacity(alloc, slots.open())?;
+        for row in rows {
+            firsts.push(ways.len() as u32)?;
+            push_row(&mut ways, row, keys)?;
+        }
+        Ok(Routes { firsts, ways })
     }
 
     /// The way of a request of the program, in constant time.
@@ -51,7 +60,8 @@ impl Routes {
         requires { IsSome (way_at self.now req) }
         ensures { way_at self.now req ≡ Some result }
     {
-        self.rows[req.task.0 as usize][req.nth as usize]
+        let first = self.firsts[req.task.0 as usize];
+        self.ways[first as usize + req.nth as usize]
     }
 }
 
@@ -81,26 +91,14 @@ impl Way {
     }
 }
 
-// The ways of all requests.
-fn rows_of(alloc: Global, rows: &[Vec<Slot>], keys: &[Keys]) -> Result<Vec<Vec<Way>>, AllocError>
-    ensures { IfOk result (λ ways. map vec_items ways.items ≡ ways_of keys.now (map vec_items rows.now)) }
+// Adds the ways of the requests of one task.
+fn push_row(ways: &mut Vec<Way>, row: &[Slot], keys: &[Keys]) -> Result<(), AllocError>
+    ensures { IfOk result (λ _. ways.new.items ≡ ways.old.items ++ row_of keys.now row.now) }
 {
-    let mut ways = Vec::with_capacity(alloc, rows.len())?;
-    for row in rows {
-        ways.push(row_of(alloc, row, keys)?)?;
-    }
-    Ok(ways)
-}
-
-// The ways of the requests of one task.
-fn row_of(alloc: Global, row: &[Slot], keys: &[Keys]) -> Result<Vec<Way>, AllocError>
-    ensures { IfOk result (λ ways. ways.items ≡ row_of keys.now row.now) }
-{
-    let mut ways = Vec::with_capacity(alloc, row.len())?;
     for slot in row {
         ways.push(way_by(slot.call, keys))?;
     }
-    Ok(ways)
+    Ok(())
 }
 
 // The way of a request of this call.

@@ -102,6 +102,15 @@ impl Lanes {
         }
     }
 
+    /// Where the next search of the lane begins. None where nothing was hung in it.
+    #[cfg(test)]
+    pub fn front(&self, lane: u32) -> Option<u32>
+        requires { lane < self.now.count }
+    {
+        let ends = self.ends[lane as usize]?;
+        Some(ends.front)
+    }
+
     /// Notes that what hung at the place is gone. In constant time.
     pub fn unhook(&mut self, place: u32)
         requires { place < length self.old.lanes }

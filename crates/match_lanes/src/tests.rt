@@ -2,6 +2,7 @@
 ghost use Rattle.std.specs.Prelude.{◌≡◌, ◌+◌, ◌≤◌, ◌<◌};
 
 use crate::keys::Keys;
+use crate::lanes::Lanes;
 use crate::mail::{Match, Message, Receive};
 use crate::plain::Plain;
 use crate::queues::Queues;
@@ -281,5 +282,19 @@ fn a_receive_takes_the_oldest_message_that_it_accepts(rt: HostRuntime) -> Result
         let last = found(alloc, &keys, &posts)?.pop();
         assert_eq!(rt; last, Some(want.map(|nth| (request(nth), request(5)))));
     }
+    Ok(())
+}
+
+#[test]
+fn a_search_begins_where_the_last_one_ended(rt: HostRuntime) -> Result<(), Fail> {
+    let mut lanes = Lanes::with_room(rt.alloc(), 1, 3)?;
+    lanes.push(0);
+    lanes.push(0);
+    lanes.push(0);
+    lanes.unhook(0);
+    lanes.unhook(1);
+    assert_eq!(rt; lanes.front(0), Some(0));
+    assert_eq!(rt; lanes.first(0), Some(2));
+    assert_eq!(rt; lanes.front(0), Some(2));
     Ok(())
 }

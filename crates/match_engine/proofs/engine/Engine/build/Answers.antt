@@ -1,4 +1,4 @@
-use Rattle.std.proofs.Common.{refl, ap, sym, subst, ◌∙◌}
+use Rattle.std.proofs.Common.{arith, refl, ap, sym, subst, ◌∙◌}
 use Rattle.rt_base.specs.declared.data.Program.{Program}
 use Rattle.match_engine.specs.Queues.{keys_of}
 use Rattle.match_engine.specs.Kept.{KeepsExchange}
@@ -7,8 +7,11 @@ use Rattle.match_engine.proofs.Replies.{slots_counted, kept_at_start}
 use Rattle.match_engine.proofs.Ways.{routed_at_start}
 use Rattle.match_engine.proofs.engine.Engine.build.Goals as goal
 
+pub build-requires-2 : goal.build-requires-2
+build-requires-2 c = slots_counted c.args.prog.now _ c.requires c.in_ok-slots.ensures
+
 pub build-requires-3-clause-slots : goal.build-requires-3-clause-slots
-build-requires-3-clause-slots c = slots_counted c.args.prog.now _ c.requires c.in_ok-slots.ensures
+build-requires-3-clause-slots c = omega (arith, slots_counted c.args.prog.now _ c.requires c.in_ok-slots.ensures)
 
 pub invariant_of-result : goal.invariant_of-result
 invariant_of-result c =
