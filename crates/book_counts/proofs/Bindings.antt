@@ -17,7 +17,7 @@ use Rattle.rt_base.specs.Exchange.{Exchange}
 use Rattle.rt_base.specs.declared.data.Entry.{Entry}
 use Rattle.rt_base.specs.State.{Task, waiting_task}
 use Rattle.task_machine.specs.Legal.{final}
-use Rattle.task_machine.specs.Machine.{open_count, open_ones, or_none}
+use Rattle.task_machine.specs.Machine.{bound_at, open_count, open_ones, or_none}
 use Rattle.task_machine.proofs.Items.{either_place, at_replicate}
 use Rattle.task_machine.proofs.Lists.{slice_get-set_same, slice_get-set_other}
 use Rattle.task_machine.proofs.Owing.{count_open}
@@ -26,7 +26,8 @@ use Rattle.tidy_runs.proofs.Bodies.{named_own, open_own}
 use Rattle.wait_steps.specs.MarkedRows.{is_marked, mark_of, marked_all, unmarked, HaveMarks}
 use Rattle.wait_steps.proofs.Marking.{is_marked-all, none_marked, have_marks_first, HaveMarks-all}
 use Rattle.book_counts.specs.Counted.{IsBinding}
-use Rattle.book_counts.proofs.OpenCounts.{none_of_others, open-append, open-none}
+use Rattle.book_counts.proofs.CountLemmas.{of_replicate}
+use Rattle.book_counts.proofs.OpenCounts.{have_open, none_of_others, open-append, open-none, open_again}
 
 -- each task has bound what it had bound
 abbrev pub BoundAsBefore : (ℕ → List ReqNo) → (ℕ → List ReqNo) → Type 0
@@ -114,3 +115,29 @@ binding_first p b x marks ns left nothing is_marks is_ns is_left =
           ap (λ (z : List ℕ). slice_get z t) is_left ∙ at_replicate tasks 0 t within ∙ ap Some (sym (open-none p x))
           ∙ ap (λ (reqs : List ReqNo). Some (open_count p x reqs)) (sym (nothing t));
     }
+
+-- after task t bound what these handles name and is incomplete
+pub binding_bind : (p : Program) (x : Exchange) (b b' : ℕ → List ReqNo) (t count : ℕ) (handles : List Handle) (marks marks' : List (List Bool))
+    (ns ns' left left' : List ℕ) → IsBinding p b x marks ns left → t < length p.tasks.items → HaveMarks marks (named_requests t handles)
+    → BindsMore t (open_ones p x (named_requests t handles)) b b' → count ≡ open_count p x (named_requests t handles)
+    → marks' ≡ marked_all marks (open_ones p x (named_requests t handles)) → ns' ≡ slice_set ns t (get_or ns t 0 + count)
+    → left' ≡ slice_set left t (get_or left t 0 + count) → IsBinding p b' x marks' ns' left'
+binding_bind p x b b' t count handles marks marks' ns ns' left left' binding within have binds is_count is_marks is_ns is_left =
+    let more : List ReqNo = open_ones p x (named_requests t handles) in
+    subst (λ (m : List (List Bool)). IsBinding p b' x m ns' left') (sym is_marks)
+    (subst (λ (z : List ℕ). IsBinding p b' x (marked_all marks more) z left') (sym is_ns)
+    (subst (λ (z : List ℕ). IsBinding p b' x (marked_all marks more) (slice_set ns t (get_or ns t 0 + count)) z) (sym is_left)
+    (binding_more p b b' x marks ns left t count more binding within (open_own p x t (named_requests t handles) (named_own t handles))
+    (have_open p x marks (named_requests t handles) have) binds (is_count ∙ count_open p x (named_requests t handles))
+    (is_count ∙ sym (open_again p x (named_requests t handles))))))
+
+none_among : (found : Option Task) → ((task : Task) → found ≡ Some task → task.bound ≡ []) → or_none (option_map (λ (task : Task). task.bound) found) ≡ []
+none_among None silent = refl
+none_among (Some task) silent = silent task refl
+
+-- in the opening no task has bound anything
+pub nothing_bound : (p : Program) (entries : List Entry) → entries ≡ [] → (t : ℕ) → or_none (bound_at (final p entries).tasks t) ≡ []
+nothing_bound p entries none t =
+    let tasks : List Task = replicate (length p.tasks.items) waiting_task in
+    ap (λ (es : List Entry). or_none (bound_at (final p es).tasks t)) none
+    ∙ none_among (slice_get tasks t) (λ task here. ap (λ (z : Task). z.bound) (of_replicate (length p.tasks.items) waiting_task task t here).0)

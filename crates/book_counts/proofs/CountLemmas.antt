@@ -25,6 +25,7 @@ use Rattle.task_machine.specs.Machine.{awaited_at, open_count}
 use Rattle.book_counts.specs.Counted.{IsCounted, is_zero, is_unreleased, waits_at}
 use Rattle.task_machine.proofs.Lists.{slice_get-set_same, slice_get-set_other, slice_set_same}
 use Rattle.task_machine.proofs.Items.{either_place, at_replicate, same_some}
+use Rattle.task_machine.proofs.Stops.{stop_held}
 
 -- a count after one place was written
 pub count-set : {X : Type 0} (f : X → Bool) (xs : List X) (i : ℕ) (was now : X) → slice_get xs i ≡ Some was
@@ -105,7 +106,17 @@ pub stop_waits : (p : Program) (x : Exchange) (h : List Bool) (t : ℕ) (def : T
 unfolding stop
 stop_waits p x h t def k bound = stop_at_waits p x h t k (drop k def.body.items) bound
 
--- a task that was handed out
+-- where a task stops it is not released
+pub stop_is_held : (def : TaskDef) (k : ℕ) → is_released (stop def k) ≡ false
+unfolding stop
+stop_is_held def k = stop_held k (drop k def.body.items)
+
+-- a task that was handed out, if it waits, waits for nothing
+pub handed_waits : (p : Program) (x : Exchange) (h : List Bool) (t : ℕ) (bound : List ReqNo) → get_or h t false ≡ true
+    → waits_at p x h t phase.Waiting bound ≡ 0
+handed_waits p x h t bound handed = ap {B = ℕ} (λ b. cond b 0 1) handed
+
+-- the same, where another task was handed out
 waits_handed : (p : Program) (x : Exchange) (h h' : List Bool) (t : ℕ) (at : Phase) (bound : List ReqNo) → get_or h' t false ≡ get_or h t false
     → waits_at p x h' t at bound ≡ waits_at p x h t at bound
 waits_handed p x h h' t phase.Waiting bound same = ap {B = ℕ} (λ b. cond b 0 1) same

@@ -2,6 +2,11 @@ pub mod Awaiting
 pub mod CountLemmas
 pub mod OpenCounts
 pub mod Tallies
+pub mod Figures
 pub mod Numbers
 pub mod Bindings
+pub mod AfterMoves
+pub mod AfterCalls
+pub mod Listeners
+pub mod Quiet
 pub mod Sent

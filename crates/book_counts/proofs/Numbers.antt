@@ -1,6 +1,6 @@
 -- How many requests each task has posted, before and after a move of a task.
-use Rattle.std.proofs.Common.{◌≡◌, ℕ, Bool, ◌+◌, ◌-◌, ◌<◌, ◌^◌, true, false, cond, List, length, take, get_or, slice_get, slice_set, Some, refl, sym, ap, ◌∙◌}
-use Rattle.std.proofs.Common.{subst, inl, inr, arith}
+use Rattle.std.proofs.Common.{◌≡◌, ℕ, Bool, ◌+◌, ◌-◌, ◌<◌, ◌≤◌, ◌^◌, true, false, cond, List, length, take, get_or, slice_get, slice_set, Some, refl, sym}
+use Rattle.std.proofs.Common.{ap, ◌∙◌, subst, inl, inr, arith}
 use Rattle.std.specs.Prelude.{replicate}
 use Rattle.std.proofs.lemmas.List.{length-set, length-replicate, length-take, get_or_past}
 use Rattle.std.proofs.lemmas.List.Sums.{count_by-le-length}
@@ -9,12 +9,11 @@ use Rattle.std.proofs.lemmas.Bool.{cases_lt}
 use Rattle.rt_base.specs.declared.data.Phase.{Phase}
 use Rattle.rt_base.specs.declared.data.Phase.TheVariants as phase
 use Rattle.rt_base.specs.declared.data.Op.{Op}
-use Rattle.rt_base.specs.declared.data.Op.TheVariants as op
 use Rattle.rt_base.specs.declared.data.TaskDef.{TaskDef}
 use Rattle.rt_base.specs.declared.data.Program.{Program}
-use Rattle.rt_base.specs.Operations.{blocks, is_posting, nth_at}
+use Rattle.rt_base.specs.Operations.{is_posting, nth_at}
+use Rattle.rt_base.specs.State.{Task}
 use Rattle.task_local.specs.Local.{stop}
-use Rattle.task_local.specs.StandsFor.{Record}
 use Rattle.task_machine.specs.Course.{posted_by_phase}
 use Rattle.task_machine.proofs.Lists.{slice_get-set_same, slice_get-set_other, slice_set_same}
 use Rattle.task_machine.proofs.Items.{either_place, at_replicate, same_some}
@@ -23,6 +22,7 @@ use Rattle.run_bounds.proofs.Changes.{nth_at-suc}
 use Rattle.run_bounds.proofs.Few.{few_operations}
 use Rattle.book_counts.specs.Counted.{IsNumbered}
 use Rattle.book_counts.proofs.CountLemmas.{of_replicate}
+use Rattle.book_counts.proofs.Figures.{Figures, AreKept, Found, read_phase}
 
 -- the numbers of a new book
 pub numbered_first : (p : Program) (phs : List Phase) (ns : List ℕ) → phs ≡ replicate (length p.tasks.items) phase.Waiting
@@ -103,3 +103,59 @@ number_before numbers t found posted view some read =
     let own : found ≡ get_or posted t found = read ∙ ap (λ (z : List ℕ). get_or z t found) view in
     let one : get_or posted t 0 ≡ found = get_or_from_slice_get posted t found 0 (slice_get_read posted (length posted) t found refl within own) in
     slice_get_read posted (length posted) t found refl within own ∙ ap Some (back_again found (omega arith))
+
+-- after the call of a posting
+posted_next : (def : TaskDef) (k : ℕ) (blocking : Bool) → k < length def.body.items
+    → posted_by_phase def (cond blocking (phase.In k) (stop def (k + 1))) ≡ nth_at def (k + 1)
+posted_next def k true within = refl
+posted_next def k false within = posted_by-stop def (k + 1) (omega arith)
+
+module _ {f : Figures} (kept : AreKept f) where
+  -- a task stops before operation k of its body, and has posted no more
+  pub numbered_stop : {t : ℕ} {def : TaskDef} {task : Task} {was at : Phase} (k : ℕ) → Found f t def task → task.phase ≡ was
+      → k ≤ length def.body.items → posted_by_phase def was ≡ nth_at def k → at ≡ stop def k → IsNumbered f.program (slice_set f.phases t at) f.posted
+  numbered_stop {t = t} {def = def} {was = was} k here stands within same stops =
+      subst (λ (q : Phase). IsNumbered f.program (slice_set f.phases t q) f.posted) (sym stops)
+      (numbered_on f.program f.phases f.posted t def was (stop def k) kept.numbered here.is_def (read_phase kept here stands)
+      (same ∙ sym (posted_by-stop def k within)))
+
+  -- a task stands there from now on, and has posted no more
+  pub numbered_next : {t : ℕ} {def : TaskDef} {task : Task} {was : Phase} (now : Phase) → Found f t def task → task.phase ≡ was
+      → posted_by_phase def was ≡ posted_by_phase def now → IsNumbered f.program (slice_set f.phases t now) f.posted
+  numbered_next {t = t} {def = def} {was = was} now here stands same =
+      numbered_on f.program f.phases f.posted t def was now kept.numbered here.is_def (read_phase kept here stands) same
+
+  -- what a task has posted, where it stands
+  pub posted_so_far : {t : ℕ} {def : TaskDef} {task : Task} {at : Phase} → Found f t def task → task.phase ≡ at
+      → slice_get f.posted t ≡ Some (posted_by_phase def at)
+  posted_so_far {t = t} {def = def} {at = at} here stands = kept.numbered.posted_are t def at here.is_def (read_phase kept here stands)
+
+  -- before an operation
+  pub next_number : {t k n : ℕ} {def : TaskDef} {task : Task} → Found f t def task → task.phase ≡ phase.At k → slice_get f.posted t ≡ Some n
+      → n ≡ nth_at def k
+  next_number here at read = same_some (sym read ∙ posted_so_far here at)
+
+  -- after the call of a posting
+  pub numbered_post : {t k n : ℕ} {def : TaskDef} {task : Task} {at : Phase} {posted : List ℕ} (x : Op) (blocking : Bool) → Found f t def task
+      → task.phase ≡ phase.At k → slice_get def.body.items k ≡ Some x → is_posting x ≡ true → slice_get f.posted t ≡ Some n
+      → posted ≡ slice_set f.posted t (get_or f.posted t 0 + 1) → at ≡ cond blocking (phase.In k) (stop def (k + 1))
+      → IsNumbered f.program (slice_set f.phases t at) posted
+  numbered_post {t = t} {k = k} {n = n} {def = def} {posted = posted} x blocking here stands is posts read is_posted is_at =
+      let nth = next_number here stands read in
+      let value : get_or f.posted t 0 ≡ n = get_or_from_slice_get f.posted t n 0 read in
+      let next = posted_next def k blocking (slice_get_within def.body.items k x is) in
+      let more = nth_at-suc def k x is posts in
+      subst (λ (q : Phase). IsNumbered f.program (slice_set f.phases t q) posted) (sym is_at)
+      (numbered_after f.program f.phases f.posted posted t (get_or f.posted t 0 + 1) def (phase.At k) (cond blocking (phase.In k) (stop def (k + 1)))
+      kept.numbered here.is_def (read_phase kept here stands) is_posted (omega arith))
+
+  -- a body posts no more requests than it has operations
+  pub few_posted : {t k n : ℕ} {def : TaskDef} {task : Task} → Found f t def task → task.phase ≡ phase.At k → k < length def.body.items
+      → slice_get f.posted t ≡ Some n → get_or f.posted t 0 + 1 < 2 ^ 32
+  few_posted {t = t} {k = k} {n = n} {def = def} here stands within read =
+      let few = few_operations f.program t def kept.well here.is_def in
+      let nth = next_number here stands read in
+      let value : get_or f.posted t 0 ≡ n = get_or_from_slice_get f.posted t n 0 read in
+      let most = count_by-le-length is_posting (take k def.body.items) in
+      let front : length (take k def.body.items) ≡ k = omega (arith, length-take k def.body.items) in
+      omega arith

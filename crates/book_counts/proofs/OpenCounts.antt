@@ -36,6 +36,12 @@ pub open-none : (p : Program) (x : Exchange) → open_count p x [] ≡ 0
 unfolding open_count
 open-none p x = refl
 
+pub open_one : (p : Program) (x : Exchange) (req : ReqNo) → open_count p x (req ∷ []) ≡ cond (is_complete p x req) 0 1
+open_one p x req =
+    let whole = open-cons p x req [] in
+    let none = open-none p x in
+    omega arith
+
 again_by : (p : Program) (x : Exchange) (req : ReqNo) (left : List ReqNo) (done : Bool) → is_complete p x req ≡ done
     → open_count p x (cond done left (req ∷ left)) ≡ cond done 0 1 + open_count p x left
 again_by p x req left true is = omega arith

@@ -1,10 +1,11 @@
 -- A number that counts the incomplete ones of some requests of a task, after a posting: one lemma for what tasks have bound and for what they await.
-use Rattle.std.proofs.Common.{◌≡◌, ℕ, ◌+◌, ◌-◌, ◌≤◌, Bool, true, false, not, ◌&&◌, ◌||◌, cond, List, [], ◌∷◌, get_or, slice_get, slice_set, Option, Some}
-use Rattle.std.proofs.Common.{None, refl, sym, ap, ◌∙◌, subst, inl, inr, arith}
+use Rattle.std.proofs.Common.{◌≡◌, ℕ, ◌+◌, ◌-◌, ◌≤◌, Bool, true, false, not, ◌&&◌, ◌||◌, cond, List, [], ◌∷◌, length, get_or, slice_get, slice_set}
+use Rattle.std.proofs.Common.{Option, Some, None, refl, sym, ap, ◌∙◌, subst, inl, inr, arith}
 use Rattle.std.specs.Prelude.{ℤ, IfSome, count_by}
 use Rattle.std.specs.List.{list_any}
 use Rattle.std.proofs.Math.Bool.{and-false, or-false}
 use Rattle.std.proofs.lemmas.Bool.{cases_Bool}
+use Rattle.std.proofs.lemmas.List.{length-set}
 use Rattle.std.proofs.lemmas.Option.{slice_get_within, get_or_from_slice_get}
 use Rattle.rt_base.specs.declared.data.ReqNo.{ReqNo}
 use Rattle.rt_base.specs.declared.data.Phase.{Phase}
@@ -113,6 +114,12 @@ tally_after p x x' own cells None said u base reqs numbers made listed number =
     kept_number p x x' own u base reqs numbers listed.fresh (λ r apart. others_same p x x' own cells None made r apart tt) number
 tally_after p x x' own cells (Some other) said u base reqs numbers made listed number =
     some_after p x x' own other cells said u base reqs numbers (completes_alone p.eager (posting_of p other)) made listed made.was number
+
+-- as many numbers as before
+pub length-one_less_for : (ws : List ℕ) (reqs : List ReqNo) → length (one_less_for ws reqs) ≡ length ws
+length-one_less_for ws [] = refl
+length-one_less_for ws (req ∷ reqs) =
+    length-one_less_for (slice_set ws req.task.0 (get_or ws req.task.0 0 - 1)) reqs ∙ length-set ws req.task.0 (get_or ws req.task.0 0 - 1)
 
 -- ---- for what a task waits
 

@@ -14,7 +14,7 @@ use Rattle.rt_base.specs.declared.data.Entry.{Entry}
 use Rattle.rt_base.specs.declared.data.Entry.TheVariants as entry
 use Rattle.rt_base.specs.declared.data.TaskDef.{TaskDef}
 use Rattle.rt_base.specs.declared.data.Program.{Program}
-use Rattle.rt_base.specs.Operations.{task_no, named_requests, postings}
+use Rattle.rt_base.specs.Operations.{task_no, named_requests, nth_at, postings}
 use Rattle.rt_base.specs.Exchange.{Exchange}
 use Rattle.rt_base.specs.State.{State, Task, is_released}
 use Rattle.task_local.specs.Local.{advanced, stop}
@@ -25,25 +25,24 @@ use Rattle.task_machine.specs.Machine.{Moved, move, call_move, bind_move, open_c
 use Rattle.task_machine.specs.Legal.{final}
 use Rattle.task_machine.specs.Laws.{is_blocking_call}
 use Rattle.task_machine.specs.Owed.{opened_by}
-use Rattle.task_machine.proofs.Stops.{posted_by-stop}
 use Rattle.tidy_runs.specs.Tidy.{called}
 use Rattle.wait_steps.specs.MarkedRows.{marked_all, HaveMarks}
 use Rattle.core_book.specs.Ledger.{Ledger, LeavesPending, bound_in, record_at}
 use Rattle.core_book.specs.Kept.{Shelf, IsBind, IsBook, KeepsState, opens, state_now}
-use Rattle.book_counts.specs.Counted.{IsNumbered}
+use Rattle.task_machine.specs.Course.{posted_by_phase}
 use Rattle.task_machine.proofs.Rows.{move-row}
 use Rattle.run_bounds.proofs.Changes.{nth_at-same}
 use Rattle.run_bounds.proofs.Few.{one_of_sum}
 use Rattle.run_bounds.proofs.Rooms.{few_postings}
 use Rattle.core_book.proofs.Moved.{IsMoved, gone_kept, ledger_of, opened-row}
 use Rattle.run_bounds.proofs.Tells.{posted_within}
-use Rattle.core_book.proofs.Held.{handed_of, read_at, stands_before, stop_is_held, theirs}
+use Rattle.book_counts.proofs.CountLemmas.{stop_is_held}
+use Rattle.core_book.proofs.Held.{handed_of, stands_before, theirs}
 use Rattle.core_book.proofs.TidyBook.{tidy_now}
-use Rattle.core_book.proofs.BoundAfter.{bound_at_task}
+use Rattle.book_counts.proofs.Figures.{bound_at_task}
 use Rattle.book_counts.proofs.Bindings.{BindsMore}
-use Rattle.core_book.proofs.CallLemmas.{Before, before, before_may}
+use Rattle.core_book.proofs.Before.{Before, before, before_may}
 use Rattle.core_book.proofs.WaitLemmas.{count_now, open_now}
-use Rattle.book_counts.proofs.Numbers.{numbered_on}
 use Rattle.wait_steps.proofs.Naming.{binding_has}
 use Rattle.run_bounds.proofs.Operations.{few_handles, few_bound, named_open_few, open_few}
 
@@ -185,7 +184,7 @@ bind_moved shelf held t k count def named next entries marks bound incomplete li
     let s : State = state_now shelf in
     let was : Task = w.it.here.was in
     record {
-      may = before_may shelf held t k def (op.Await true w.parts.handles w.parts.status) w.it;
+      may = before_may w.it;
       moved = bind_made shelf held t k def w;
       is_task = w.it.here.is_task;
       tasks = refl;
@@ -211,14 +210,9 @@ bind_moved shelf held t k count def named next entries marks bound incomplete li
       places = record { entries = more; statuses = omega arith; notices = omega arith; opened = more' };
     }
 
-pub bind_numbered : (shelf : Shelf) (held : Record) (t k : ℕ) (def : TaskDef) (next : Phase) → IsBook shelf → (w : Binds shelf held t k def)
-    → next ≡ stop def (k + 1) → IsNumbered shelf.program (slice_set shelf.phases t next) shelf.posted
-bind_numbered shelf held t k def next book w stops =
-    let within = bind_within shelf held t k def w in
-    subst (λ (q : Phase). IsNumbered shelf.program (slice_set shelf.phases t q) shelf.posted) (sym stops)
-    (numbered_on shelf.program shelf.phases shelf.posted t def (phase.At k) (stop def (k + 1)) book.numbered w.it.here.is_def
-    (read_at shelf held t def (phase.At k) (phase.At k) book.kept w.it.here w.it.at)
-    (sym (posted_by-stop def (k + 1) (omega arith) ∙ nth_at-same def k (op.Await true w.parts.handles w.parts.status) w.parts.is refl)))
+-- it posts nothing
+pub bind_posts : (def : TaskDef) (k : ℕ) (w : BindIs (slice_get def.body.items k)) → posted_by_phase def (phase.At k) ≡ nth_at def (k + 1)
+bind_posts def k w = sym (nth_at-same def k (op.Await true w.handles w.status) w.is refl)
 
 -- what the engine and the state say of what is bound is one
 pub bind_binds : (shelf : Shelf) (held : Record) (t k : ℕ) (def : TaskDef) (named : List Handle) (bound : ℕ → List ReqNo) → KeepsState shelf

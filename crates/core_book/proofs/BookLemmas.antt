@@ -1,5 +1,5 @@
 -- A new book, and a book that hands out a task.
-use Rattle.std.proofs.Common.{◌≡◌, ℕ, zero, suc, ◌^◌, ◌<◌, ◌≤◌, Bool, true, false, List, [], ◌∷◌, length, map, slice_get, slice_set, Some, None, Option}
+use Rattle.std.proofs.Common.{◌≡◌, ℕ, zero, suc, ◌^◌, ◌<◌, ◌≤◌, Bool, true, List, [], ◌∷◌, length, map, slice_get, slice_set, Some, None, Option}
 use Rattle.std.proofs.Common.{IfSome, IfNone, refl, sym, ap, ◌∙◌, subst, arith}
 use Rattle.std.specs.Prelude.{ℤ, pos, replicate}
 use Rattle.std.proofs.lemmas.List.{length-replicate}
@@ -10,7 +10,7 @@ use Rattle.rt_base.specs.declared.data.Status.{Status}
 use Rattle.rt_base.specs.declared.data.Entry.{Entry}
 use Rattle.rt_base.specs.declared.data.Program.{Program}
 use Rattle.rt_base.specs.Layout.{memory_len}
-use Rattle.rt_base.specs.Precedes.{LetGo, MayStart}
+use Rattle.rt_base.specs.Precedes.{LetGo}
 use Rattle.rt_base.specs.Exchange.{silent}
 use Rattle.rt_base.specs.State.{State, Task, opening, waiting_task, is_released, let_go}
 use Rattle.rt_base.specs.WellFormed.{WellFormed}
@@ -23,6 +23,7 @@ use Rattle.run_bounds.proofs.Rooms.{bounds_few}
 use Rattle.core_book.specs.Kept.{Shelf, KeepsState, opens, state_now}
 use Rattle.core_book.proofs.Moved.{ledger_of, short_now}
 use Rattle.core_book.proofs.Questions.{gone_of}
+use Rattle.book_counts.proofs.Quiet.{MayBeHanded}
 
 -- the insides of a new book
 pub record IsNew (shelf : Shelf) : Type 0 where
@@ -81,20 +82,22 @@ new_book shelf n =
       places = record { entries = n.entry_places; statuses = n.status_places; notices = n.notice_places; opened = n.opened_places };
     }
 
-abbrev pub MayBeHanded : List Bool → Program → LetGo → ℕ → Type 0
-MayBeHanded handed p gone t = (slice_get handed t ≡ Some false) × MayStart p gone t
+-- what is startable in the graph is what may be handed out in the state
+pub may_be_handed : (shelf : Shelf) (t : ℕ) → KeepsState shelf → IsStartable shelf.ready t → IsReady (ledger_of shelf) t
+may_be_handed shelf t k startable =
+    subst (λ (g : LetGo). MayBeHanded shelf.ready.handed shelf.program g t) (gone_of shelf k)
+    (subst (λ (q : Program). MayBeHanded shelf.ready.handed q shelf.ready.gone t) k.of_program startable)
+
+pub startable_here : (shelf : Shelf) (t : ℕ) → KeepsState shelf → IsReady (ledger_of shelf) t → IsStartable shelf.ready t
+startable_here shelf t k here =
+    subst (λ (q : Program). MayBeHanded shelf.ready.handed q shelf.ready.gone t) (sym k.of_program)
+    (subst (λ (g : LetGo). MayBeHanded shelf.ready.handed shelf.program g t) (sym (gone_of shelf k)) here)
 
 pub is_ready : (shelf : Shelf) (l : Ledger) (t : ℕ) → KeepsState shelf → ledger_of shelf ≡ l → IsStartable shelf.ready t → IsReady l t
-is_ready shelf l t k view startable =
-    let own : IsReady (ledger_of shelf) t = subst (λ (g : LetGo). MayBeHanded shelf.ready.handed shelf.program g t) (gone_of shelf k)
-    (subst (λ (q : Program). MayBeHanded shelf.ready.handed q shelf.ready.gone t) k.of_program startable) in
-    subst (λ (z : Ledger). IsReady z t) view own
+is_ready shelf l t k view startable = subst (λ (z : Ledger). IsReady z t) view (may_be_handed shelf t k startable)
 
 is_startable : (shelf : Shelf) (l : Ledger) (t : ℕ) → KeepsState shelf → ledger_of shelf ≡ l → IsReady l t → IsStartable shelf.ready t
-is_startable shelf l t k view here =
-    let own : IsReady (ledger_of shelf) t = subst (λ (z : Ledger). IsReady z t) (sym view) here in
-    subst (λ (q : Program). MayBeHanded shelf.ready.handed q shelf.ready.gone t) (sym k.of_program)
-    (subst (λ (g : LetGo). MayBeHanded shelf.ready.handed shelf.program g t) (sym (gone_of shelf k)) own)
+is_startable shelf l t k view here = startable_here shelf t k (subst (λ (z : Ledger). IsReady z t) (sym view) here)
 
 pub ready_none : (shelf : Shelf) (l : Ledger) (found : Option TaskNo) → KeepsState shelf → ledger_of shelf ≡ l
     → IfNone found ((t : ℕ) → ¬ IsStartable shelf.ready t)

@@ -20,7 +20,8 @@ use Rattle.core_book.specs.Ledger.{record_at, record_after}
 use Rattle.core_book.specs.Kept.{Shelf, KeepsState, state_now}
 use Rattle.task_machine.proofs.Rows.{move-row}
 use Rattle.core_book.proofs.Moved.{IsMoved, moved_alone, opened-row}
-use Rattle.core_book.proofs.Held.{Held, handed_of, stands_before, stop_is_held}
+use Rattle.book_counts.proofs.CountLemmas.{stop_is_held}
+use Rattle.core_book.proofs.Held.{Held, handed_of, stands_before}
 
 -- where a record is left, by where it stands
 pub left_as : (shelf : Shelf) (held : Record) (t : ℕ) (def : TaskDef) (at : Phase) → Held shelf held t def at

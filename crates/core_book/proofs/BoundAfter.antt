@@ -6,15 +6,12 @@ use Rattle.rt_base.specs.State.{State, Task}
 use Rattle.task_machine.specs.Machine.{Moved, bound_at, or_none}
 use Rattle.std.specs.Prelude.{option_map}
 use Rattle.book_counts.proofs.Bindings.{BoundAsBefore, BindsMore}
+use Rattle.book_counts.proofs.Figures.{bound_at_task}
 use Rattle.core_book.specs.Ledger.{bound_in}
 use Rattle.core_book.specs.Kept.{Shelf, state_now}
 use Rattle.task_machine.proofs.Lists.{slice_get-set_same, slice_get-set_other}
 use Rattle.task_machine.proofs.Items.{either_place}
 use Rattle.core_book.proofs.Moved.{IsMoved, moved_state}
-
--- what is bound to a task that is there
-pub bound_at_task : (s : State) (t : ℕ) (task : Task) → slice_get s.tasks t ≡ Some task → bound_in s t ≡ task.bound
-bound_at_task s t task is_task = ap (λ (o : Option Task). or_none (option_map (λ (z : Task). z.bound) o)) is_task
 
 -- what is bound to task u among these
 abbrev bound_among : ℕ → List Task → List ReqNo

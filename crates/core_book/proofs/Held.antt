@@ -1,9 +1,9 @@
 -- The task of a record, as the caller, the book and the machine's state have it.
-use Rattle.std.proofs.Common.{◌≡◌, ◌≢◌, ℕ, ◌+◌, ◌^◌, ◌<◌, ◌≤◌, Bool, true, false, List, ◌++◌, length, drop, slice_get, Some, Option, refl, sym, ap, ◌∙◌, subst}
+use Rattle.std.proofs.Common.{◌≡◌, ◌≢◌, ℕ, ◌+◌, ◌^◌, ◌<◌, ◌≤◌, Bool, true, false, List, ◌++◌, length, slice_get, Some, Option, refl, sym, ap, ◌∙◌, subst}
 use Rattle.std.proofs.Common.{cond, ltb, arith}
 use Rattle.std.specs.Prelude.{ℤ, unwrap_or}
 use Rattle.std.proofs.lemmas.Option.{slice_get_within}
-use Rattle.std.proofs.lemmas.List.{length-map, length-append}
+use Rattle.std.proofs.lemmas.List.{length-append}
 use Rattle.std.proofs.lemmas.Bool.{ltb-false}
 use Rattle.rt_base.specs.declared.data.Phase.{Phase}
 use Rattle.rt_base.specs.declared.data.Phase.TheVariants as phase
@@ -13,7 +13,7 @@ use Rattle.rt_base.specs.declared.data.Program.{Program}
 use Rattle.rt_base.specs.declared.data.Entry.{Entry}
 use Rattle.rt_base.specs.declared.data.Status.{Status}
 use Rattle.rt_base.specs.declared.data.ReqNo.{ReqNo}
-use Rattle.rt_base.specs.State.{Task, is_released}
+use Rattle.rt_base.specs.State.{Task}
 use Rattle.rt_base.specs.MayMove.{MayMove}
 use Rattle.task_local.specs.Local.{advanced, stop, run_front}
 use Rattle.task_local.specs.Standing.{phase_before, def_of, no_task}
@@ -21,7 +21,8 @@ use Rattle.task_local.specs.StandsFor.{Record, StandsFor, StandsAs}
 use Rattle.task_machine.specs.Legal.{final}
 use Rattle.task_machine.specs.Machine.{move}
 use Rattle.task_machine.proofs.Items.{same_some}
-use Rattle.task_machine.proofs.Stops.{drop_end, stop_ended, stop_begins, stop_held}
+use Rattle.task_machine.proofs.Stops.{drop_end, stop_ended, stop_begins}
+use Rattle.book_counts.proofs.Figures.{phases_long}
 use Rattle.core_book.specs.Ledger.{Ledger}
 use Rattle.run_bounds.proofs.Rooms.{bounds_few}
 use Rattle.core_book.specs.Kept.{Shelf, KeepsState, state_now}
@@ -125,8 +126,7 @@ notice_room shelf t notices k may are =
     omega (arith, ap (λ (z : List ReqNo). length z) are, (short_after shelf t k may).notices, k.places.notices)
 
 pub phases_counted : (shelf : Shelf) → KeepsState shelf → length shelf.phases ≡ length shelf.program.tasks.items
-phases_counted shelf k =
-    ap (λ (z : List Phase). length z) k.phases_are ∙ length-map (state_now shelf).tasks (λ (z : Task). z.phase) ∙ (fits_now shelf k).counted
+phases_counted shelf k = phases_long shelf.program (state_now shelf) shelf.phases (fits_now shelf k) k.phases_are
 
 pub place_within : (shelf : Shelf) (held : Record) (t : ℕ) (def : TaskDef) (at : Phase) → KeepsState shelf → Held shelf held t def at → t < length shelf.phases
 place_within shelf held t def at k h = slice_get_within shelf.phases t h.was.phase (phase_read shelf t h.was k h.is_task)
@@ -148,7 +148,3 @@ stands_if def k copy task false past at copied = (at ∙ stop_past def k (past r
 pub stands_before : (def : TaskDef) (k : ℕ) (copy : List ℤ) (task : Task) → task.phase ≡ stop def k → task.copy ≡ advanced def k copy
     → StandsAs def (phase_before def k) copy task
 stands_before def k copy task at copied = stands_if def k copy task (ltb k (length def.body.items)) (ltb-false k (length def.body.items)) at copied
-
-pub stop_is_held : (def : TaskDef) (k : ℕ) → is_released (stop def k) ≡ false
-unfolding stop
-stop_is_held def k = stop_held k (drop k def.body.items)

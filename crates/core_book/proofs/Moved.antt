@@ -32,6 +32,7 @@ use Rattle.run_bounds.specs.Bounds.{IsShort}
 use Rattle.run_bounds.proofs.Rooms.{bounds_few}
 use Rattle.run_bounds.proofs.Moves.{phases_after}
 use Rattle.run_bounds.proofs.Runs.{runs_fit, runs_short}
+use Rattle.book_counts.proofs.Figures
 use Rattle.core_book.specs.Ledger.{Ledger, MakesMove, record_at, record_after}
 use Rattle.core_book.specs.Kept.{Shelf, HasCapacity, KeepsState, state_now}
 
@@ -85,9 +86,7 @@ opened-row p s t def task at is_def is_task stands = rw (is_def, is_task, stands
 -- where a task stands in the state, the book has it
 pub phase_read : (shelf : Shelf) (t : ℕ) (task : Task) → KeepsState shelf → slice_get (state_now shelf).tasks t ≡ Some task
     → slice_get shelf.phases t ≡ Some task.phase
-phase_read shelf t task k is_task =
-    ap (λ (z : List Phase). slice_get z t) k.phases_are ∙ slice_get-map (λ (z : Task). z.phase) (state_now shelf).tasks t
-    ∙ ap (option_map (λ (z : Task). z.phase)) is_task
+phase_read shelf t task k is_task = Figures.phase_read (state_now shelf) shelf.phases t task k.phases_are is_task
 
 -- the released marks of a task that holds its regions
 pub still_held : (shelf : Shelf) (t : ℕ) (was : Task) → KeepsState shelf → slice_get (state_now shelf).tasks t ≡ Some was → is_released was.phase ≡ false

@@ -7,8 +7,7 @@ use Rattle.region_deps.specs.Readiness.{Readiness}
 use Rattle.wait_steps.specs.MarkedRows.{unmarked}
 use Rattle.core_book.specs.Ledger.{bound_in}
 use Rattle.core_book.specs.Kept.{Shelf, IsBook, state_now}
-use Rattle.core_book.proofs.BindingMoves.{nothing_bound}
-use Rattle.book_counts.proofs.Bindings.{binding_first}
+use Rattle.book_counts.proofs.Bindings.{binding_first, nothing_bound}
 use Rattle.core_book.proofs.BookLemmas.{IsNew, new_book}
 use Rattle.book_counts.proofs.CountLemmas.{counted_first}
 use Rattle.book_counts.proofs.Numbers.{numbered_first}

@@ -1,7 +1,6 @@
 -- What a book answers of its tasks, in terms of its fields.
-use Rattle.std.proofs.Common.{◌≡◌, ℕ, ◌+◌, ◌<◌, ◌≤◌, ◌↔◌, Bool, List, length, map, slice_get, get_or, Some, None, Option}
-use Rattle.std.proofs.Common.{IsTrue, refl, sym, ap, ◌∙◌, subst, All, below_more, arith}
-use Rattle.std.specs.Prelude.{option_map}
+use Rattle.std.proofs.Common.{◌≡◌, ℕ, ◌+◌, ◌<◌, ◌≤◌, ◌↔◌, Bool, List, length, map, slice_get, get_or, Some}
+use Rattle.std.proofs.Common.{IsTrue, sym, ap, ◌∙◌, subst, All, below_more, arith}
 use Rattle.std.proofs.lemmas.Option.{slice_get_within, slice_get_read, slice_get-get_or}
 use Rattle.std.proofs.lemmas.List.{length-map}
 use Rattle.std.proofs.lemmas.List.Elements.{All-map}
@@ -15,8 +14,8 @@ use Rattle.rt_base.specs.Precedes.{LetGo, MayStart}
 use Rattle.rt_base.specs.State.{State, Task, let_go}
 use Rattle.rt_base.specs.MayMove.{MayMove, MayMoveAt}
 use Rattle.task_local.specs.Standing.{no_task}
-use Rattle.task_machine.proofs.Lists.{slice_get-map}
 use Rattle.task_machine.specs.Legal.{final, IsQuiet, IsFinished, phases_of}
+use Rattle.book_counts.proofs.Figures.{Standing, standing}
 use Rattle.core_book.specs.Ledger.{Ledger}
 use Rattle.core_book.specs.Kept.{Shelf, KeepsState, state_now}
 use Rattle.core_book.proofs.Moved.{ledger_of}
@@ -24,22 +23,6 @@ use Rattle.core_book.proofs.Held.{same_program, theirs, phases_counted}
 
 same_item : {X : Type 0} {a b : X} → Some a ≡ Some b → a ≡ b
 same_item e = cc
-
--- the task that stands there
-pub record Standing (s : State) (t : ℕ) (at : Phase) : Type 0 where
-  pub task : Task
-  pub is_task : slice_get s.tasks t ≡ Some task
-  pub stands : task.phase ≡ at
-
-standing_of : (found : Option Task) (at : Phase) → option_map (λ (z : Task). z.phase) found ≡ Some at → (task : Task) × (found ≡ Some task) × (task.phase ≡ at)
-standing_of None at is = absurd (cc)
-standing_of (Some task) at is = (task, refl, cc)
-
-pub standing : (shelf : Shelf) (t : ℕ) (at : Phase) → KeepsState shelf → slice_get shelf.phases t ≡ Some at → Standing (state_now shelf) t at
-standing shelf t at k here =
-    let found = standing_of (slice_get (state_now shelf).tasks t) at
-    (sym (slice_get-map (λ (z : Task). z.phase) (state_now shelf).tasks t) ∙ ap (λ (z : List Phase). slice_get z t) (sym k.phases_are) ∙ here) in
-    record { task = found.0; is_task = found.1; stands = found.2 }
 
 -- a task may move exactly as its phase says
 pub may_move_is : (p : Program) (s : State) (t : ℕ) (def : TaskDef) (at : Phase) (here : Standing s t at) → slice_get p.tasks.items t ≡ Some def
@@ -93,7 +76,7 @@ can_move_answer shelf t at found result l prog k view same exists read is answer
     let within : t < length p.tasks.items = subst (λ (z : Program). t < length z.tasks.items) (same_program shelf l prog view same) exists in
     let here : slice_get shelf.phases t ≡ Some at =
     slice_get_read shelf.phases (length p.tasks.items) t found (sym (phases_counted shelf k)) within read ∙ ap Some is in
-    let stands = standing shelf t at k here in
+    let stands = standing (state_now shelf) shelf.phases t at k.phases_are here in
     let is_def = slice_get-get_or p.tasks.items t no_task within in
     theirs (λ (q : Program) (es : List Entry). IsTrue result ↔ MayMove q (final q es) t) shelf l prog view same
     (may_move_is p (state_now shelf) t (get_or p.tasks.items t no_task) at stands is_def result

@@ -75,158 +75,139 @@ one_complete p e (r ∷ reqs) q all has = elim (or_cases (same_request q r) (lis
   | inr later ↦ one_complete p e reqs q all.1 later
 ]
 
--- what the task has bound is complete, as it may let go
-bound_complete : (shelf : Shelf) (held : Record) (t : ℕ) (def : TaskDef) → (r : Releases shelf held t def)
-    → AreComplete shelf.program (state_now shelf).exchange r.here.was.bound
-bound_complete shelf held t def r =
-    let p : Program = shelf.program in
-    let s : State = state_now shelf in
-    let was : Task = r.here.was in
-    let one_def : r.may.def ≡ def = same_Some r.may.def def (sym r.may.is_def ∙ r.here.is_def) in
-    let one_task : r.may.task ≡ was = same_Some r.may.task was (sym r.may.is_task ∙ r.here.is_task) in
-    subst (MayMoveAt p s.tasks s.exchange t def was) r.here.stands.0
-    (subst (λ (z : Task). MayMoveAt p s.tasks s.exchange t def z z.phase) one_task
-    (subst (λ (d : TaskDef). MayMoveAt p s.tasks s.exchange t d r.may.task r.may.task.phase) one_def r.may.enabled))
-
--- so all that its operations that bind name is complete
-late_complete : (shelf : Shelf) (held : Record) (t : ℕ) (def : TaskDef) → KeepsState shelf → Releases shelf held t def
-    → AreReceived shelf.program (state_now shelf).exchange t def
-late_complete shelf held t def kept r k has =
-    let p : Program = shelf.program in
-    let e : Exchange = (state_now shelf).exchange in
-    let tidy = tidy_now shelf kept t def r.here.was r.here.is_def r.here.is_task in
-    all_complete p e (named_requests t (handles_of (nth_at def k) (slice_get def.body.items k))) (λ q names.
-    elim (tidy.covered k (subst (λ (ks : List ℕ). Contains ks k) (sym r.named) has) q names) [
-      | inl complete ↦ complete
-      | inr bound ↦ one_complete p e r.here.was.bound q (bound_complete shelf held t def r) bound
-    ])
-
-pub late_received : (shelf : Shelf) (held : Record) (t u : ℕ) (def : TaskDef) → KeepsState shelf → Releases shelf held t def → u ≡ t
-    → AreReceived shelf.engine.program shelf.engine.exchange u def
-late_received shelf held t u def kept r who =
-    subst (λ (v : ℕ). AreReceived shelf.engine.program shelf.engine.exchange v def) (sym who)
-    (subst (λ (q : Program). AreReceived q shelf.engine.exchange t def) (sym kept.engine_of)
-    (subst (λ (e : Exchange). AreReceived shelf.program e t def) (sym kept.exchange_is) (late_complete shelf held t def kept r)))
-
--- the task after its release
-abbrev pub released_task : Program → Exchange → ℕ → TaskDef → Task → Task
-released_task p e t def was = record was { phase = phase.Released; copy = taken_at_release p e t def was.named was.copy }
-
--- the move
-pub release_made : (shelf : Shelf) (held : Record) (t : ℕ) (def : TaskDef) → (r : Releases shelf held t def)
-    → move shelf.program (state_now shelf) t ≡ release_move shelf.program (state_now shelf) t def r.here.was
-release_made shelf held t def r =
-    move-row shelf.program (state_now shelf) t def r.here.was phase.Returned r.here.is_def r.here.is_task r.here.stands.0
-
-release_tells : (shelf : Shelf) (held : Record) (t : ℕ) (def : TaskDef) → (r : Releases shelf held t def)
-    → (move shelf.program (state_now shelf) t).state.statuses
-    ≡ (state_now shelf).statuses ++ told_at_release shelf.program (state_now shelf).exchange t def (bindings 0 def.body.items)
-release_tells shelf held t def r =
-    ap (λ (z : Moved). z.state.statuses) (release_made shelf held t def r)
-    ∙ ap (λ (ks : List ℕ). (state_now shelf).statuses ++ told_at_release shelf.program (state_now shelf).exchange t def ks) r.named
-
--- there is room for its statuses, and they are counted in 32 bits
-pub late_told_room : (shelf : Shelf) (held : Record) (t : ℕ) (def : TaskDef) → KeepsState shelf → (r : Releases shelf held t def)
-    → length shelf.statuses + sum_by tells_late def.body.items ≤ shelf.status_places
-late_told_room shelf held t def kept r =
-    omega (
-      arith,
-      told_room shelf t _ kept r.may (release_tells shelf held t def r),
-      told_late shelf.program (state_now shelf).exchange t 0 def def.body.items refl,
-    )
-
 long_by : (p : Program) (e : Exchange) (t : ℕ) (def : TaskDef) (statuses new : List Status)
     → new ≡ statuses ++ told_at_release p e t def (bindings 0 def.body.items) → length new ≡ length statuses + sum_by tells_late def.body.items
 long_by p e t def statuses new told =
     ap (λ (z : List Status). length z) told ∙ length-append statuses (told_at_release p e t def (bindings 0 def.body.items))
     ∙ ap (λ (n : ℕ). length statuses + n) (told_late p e t 0 def def.body.items refl)
 
-pub late_count : (shelf : Shelf) (held : Record) (t u : ℕ) (def : TaskDef) (new : List Status) → KeepsState shelf → (r : Releases shelf held t def)
-    → new ≡ shelf.statuses ++ told_at_release shelf.engine.program shelf.engine.exchange u def (bindings 0 def.body.items)
-    → (length shelf.statuses ≤ length new) × (length new < 2 ^ 32)
-late_count shelf held t u def new kept r told =
-    let long = long_by shelf.engine.program shelf.engine.exchange u def shelf.statuses new told in
-    let few = told_count shelf t _ kept r.may (release_tells shelf held t def r) in
-    let same = told_late shelf.program (state_now shelf).exchange t 0 def def.body.items refl in
-    (omega arith, omega arith)
+-- the task after its release
+abbrev pub released_task : Program → Exchange → ℕ → TaskDef → Task → Task
+released_task p e t def was = record was { phase = phase.Released; copy = taken_at_release p e t def was.named was.copy }
 
--- what is stored and told, in the state's own terms
-pub late_copy : (shelf : Shelf) (held : Record) (t : ℕ) (def : TaskDef) → KeepsState shelf → (r : Releases shelf held t def)
-    → taken_at_release shelf.engine.program shelf.engine.exchange held.task def (bindings 0 def.body.items) held.copy
-    ≡ taken_at_release shelf.program (state_now shelf).exchange t def r.here.was.named r.here.was.copy
-late_copy shelf held t def kept r =
-    let p : Program = shelf.program in
-    let e : Exchange = (state_now shelf).exchange in
-    let all : List ℕ = bindings 0 def.body.items in
-    ap (λ (q : Program). taken_at_release q shelf.engine.exchange held.task def all held.copy) kept.engine_of
-    ∙ ap (λ (x : Exchange). taken_at_release p x held.task def all held.copy) kept.exchange_is
-    ∙ ap (λ (v : ℕ). taken_at_release p e v def all held.copy) (sym r.here.who)
-    ∙ ap (λ (ks : List ℕ). taken_at_release p e t def ks held.copy) (sym r.named) ∙ ap (taken_at_release p e t def r.here.was.named) r.here.stands.1
+module _ {shelf : Shelf} {held : Record} {t : ℕ} {def : TaskDef} (r : Releases shelf held t def) where
+  -- what the task has bound is complete, as it may let go
+  bound_complete : AreComplete shelf.program (state_now shelf).exchange r.here.was.bound
+  bound_complete =
+      let p : Program = shelf.program in
+      let s : State = state_now shelf in
+      let was : Task = r.here.was in
+      let one_def : r.may.def ≡ def = same_Some r.may.def def (sym r.may.is_def ∙ r.here.is_def) in
+      let one_task : r.may.task ≡ was = same_Some r.may.task was (sym r.may.is_task ∙ r.here.is_task) in
+      subst (MayMoveAt p s.tasks s.exchange t def was) r.here.stands.0
+      (subst (λ (z : Task). MayMoveAt p s.tasks s.exchange t def z z.phase) one_task
+      (subst (λ (d : TaskDef). MayMoveAt p s.tasks s.exchange t d r.may.task r.may.task.phase) one_def r.may.enabled))
 
-pub late_tells : (shelf : Shelf) (held : Record) (t u : ℕ) (def : TaskDef) → KeepsState shelf → (r : Releases shelf held t def) → u ≡ t
-    → told_at_release shelf.engine.program shelf.engine.exchange u def (bindings 0 def.body.items)
-    ≡ told_at_release shelf.program (state_now shelf).exchange t def r.here.was.named
-late_tells shelf held t u def kept r who =
-    let p : Program = shelf.program in
-    let all : List ℕ = bindings 0 def.body.items in
-    ap (λ (q : Program). told_at_release q shelf.engine.exchange u def all) kept.engine_of
-    ∙ ap (λ (x : Exchange). told_at_release p x u def all) kept.exchange_is
-    ∙ ap (λ (v : ℕ). told_at_release p (state_now shelf).exchange v def all) who
-    ∙ ap (told_at_release p (state_now shelf).exchange t def) (sym r.named)
+  -- the move
+  release_made : move shelf.program (state_now shelf) t ≡ release_move shelf.program (state_now shelf) t def r.here.was
+  release_made = move-row shelf.program (state_now shelf) t def r.here.was phase.Returned r.here.is_def r.here.is_task r.here.stands.0
 
--- the record after what was bound is stored
-pub late_stored : (shelf : Shelf) (held stored : Record) (t : ℕ) (def : TaskDef) → KeepsState shelf → (r : Releases shelf held t def)
-    → stored ≡ record held {
-      copy = taken_at_release shelf.engine.program shelf.engine.exchange held.task def (bindings 0 def.body.items) held.copy;
-    }
-    → stored ≡ record held { copy = taken_at_release shelf.program (state_now shelf).exchange t def r.here.was.named r.here.was.copy }
-late_stored shelf held stored t def kept r went =
-    went ∙ ap (λ (z : List ℤ). record held { copy = z }) (late_copy shelf held t def kept r)
+  release_tells : (move shelf.program (state_now shelf) t).state.statuses
+      ≡ (state_now shelf).statuses ++ told_at_release shelf.program (state_now shelf).exchange t def (bindings 0 def.body.items)
+  release_tells =
+      ap (λ (z : Moved). z.state.statuses) release_made
+      ∙ ap (λ (ks : List ℕ). (state_now shelf).statuses ++ told_at_release shelf.program (state_now shelf).exchange t def ks) r.named
 
--- what the task named, as the state has it
-names_now : (shelf : Shelf) (held : Record) (t : ℕ) (def : TaskDef) → (r : Releases shelf held t def)
-    → named_in (state_now shelf).tasks held.task ≡ r.here.was.named
-names_now shelf held t def r =
-    ap (λ (i : ℕ). named_in (state_now shelf).tasks i) (sym r.here.who)
-    ∙ ap (λ (o : Option Task). unwrap_or (option_map (λ (z : Task). z.named) o) []) r.here.is_task
+  -- what the task named, as the state has it
+  names_now : named_in (state_now shelf).tasks held.task ≡ r.here.was.named
+  names_now =
+      ap (λ (i : ℕ). named_in (state_now shelf).tasks i) (sym r.here.who)
+      ∙ ap (λ (o : Option Task). unwrap_or (option_map (λ (z : Task). z.named) o) []) r.here.is_task
 
--- where the record is left
-pub release_left : (shelf : Shelf) (held stored after : Record) (t : ℕ) (def : TaskDef) → (r : Releases shelf held t def)
-    → stored ≡ record held { copy = taken_at_release shelf.program (state_now shelf).exchange t def r.here.was.named r.here.was.copy }
-    → after ≡ record stored { phase = phase.Released } → after ≡ record_at shelf.program (state_now shelf) def held phase.Returned
-release_left shelf held stored after t def r went goes =
-    let p : Program = shelf.program in
-    let e : Exchange = (state_now shelf).exchange in
-    goes ∙ ap (λ (z : Record). record z { phase = phase.Released }) went
-    ∙ ap (λ (v : ℕ). record held { phase = phase.Released; copy = taken_at_release p e v def r.here.was.named r.here.was.copy }) r.here.who
-    ∙ ap (λ (ks : List ℕ). record held { phase = phase.Released; copy = taken_at_release p e held.task def ks r.here.was.copy })
-    (sym (names_now shelf held t def r))
-    ∙ ap (λ (z : List ℤ). record held {
-      phase = phase.Released;
-      copy = taken_at_release p e held.task def (named_in (state_now shelf).tasks held.task) z;
-    }) (sym r.here.stands.1)
+  -- the copy after what was bound is stored
+  abbrev pub copy_now : List ℤ
+  copy_now = taken_at_release shelf.program (state_now shelf).exchange t def r.here.was.named r.here.was.copy
 
-pub release_stands : (shelf : Shelf) (held stored after : Record) (t : ℕ) (def : TaskDef) → (r : Releases shelf held t def)
-    → stored ≡ record held { copy = taken_at_release shelf.program (state_now shelf).exchange t def r.here.was.named r.here.was.copy }
-    → after ≡ record stored { phase = phase.Released }
-    → StandsAs def after.phase after.copy (released_task shelf.program (state_now shelf).exchange t def r.here.was)
-release_stands shelf held stored after t def r went goes =
-    subst (λ (z : Record). StandsAs def z.phase z.copy (released_task shelf.program (state_now shelf).exchange t def r.here.was))
-    (sym (goes ∙ ap (λ (z : Record). record z { phase = phase.Released }) went)) (refl, refl)
+  -- where the record is left
+  pub release_left : {stored after : Record} → stored ≡ record held { copy = copy_now } → after ≡ record stored { phase = phase.Released }
+      → after ≡ record_at shelf.program (state_now shelf) def held phase.Returned
+  release_left went goes =
+      let p : Program = shelf.program in
+      let e : Exchange = (state_now shelf).exchange in
+      goes ∙ ap (λ (z : Record). record z { phase = phase.Released }) went
+      ∙ ap (λ (v : ℕ). record held { phase = phase.Released; copy = taken_at_release p e v def r.here.was.named r.here.was.copy }) r.here.who
+      ∙ ap (λ (ks : List ℕ). record held { phase = phase.Released; copy = taken_at_release p e held.task def ks r.here.was.copy }) (sym names_now)
+      ∙ ap (λ (z : List ℤ). record held {
+        phase = phase.Released;
+        copy = taken_at_release p e held.task def (named_in (state_now shelf).tasks held.task) z;
+      }) (sym r.here.stands.1)
 
--- what is saved, in the state's own terms
-pub saved_now : (shelf : Shelf) (held stored : Record) (t : ℕ) (def : TaskDef) (prog : Program) (before after : List ℤ) → KeepsState shelf
-    → (r : Releases shelf held t def)
-    → stored ≡ record held { copy = taken_at_release shelf.program (state_now shelf).exchange t def r.here.was.named r.here.was.copy }
-    → prog ≡ shelf.program → before ≡ shelf.memory → after ≡ saved prog (def_of stored.program stored.task) stored.copy before
-    → after ≡ saved shelf.program def (taken_at_release shelf.program (state_now shelf).exchange t def r.here.was.named r.here.was.copy)
-    (state_now shelf).memory
-saved_now shelf held stored t def prog before after kept r went same seen put =
-    let p : Program = shelf.program in
-    let copy : List ℤ = taken_at_release p (state_now shelf).exchange t def r.here.was.named r.here.was.copy in
-    put ∙ ap (λ (z : Program). saved z (def_of stored.program stored.task) stored.copy before) same
-    ∙ ap (λ (z : Record). saved p (def_of z.program z.task) z.copy before) went
-    ∙ ap (λ (d : TaskDef). saved p d copy before) r.here.held_def ∙ ap (saved p def copy) (seen ∙ kept.memory_is)
+  pub release_stands : {stored after : Record} → stored ≡ record held { copy = copy_now } → after ≡ record stored { phase = phase.Released }
+      → StandsAs def after.phase after.copy (released_task shelf.program (state_now shelf).exchange t def r.here.was)
+  release_stands went goes =
+      subst (λ (z : Record). StandsAs def z.phase z.copy (released_task shelf.program (state_now shelf).exchange t def r.here.was))
+      (sym (goes ∙ ap (λ (z : Record). record z { phase = phase.Released }) went)) (refl, refl)
+
+module _ {shelf : Shelf} {held : Record} {t : ℕ} {def : TaskDef} (kept : KeepsState shelf) (r : Releases shelf held t def) where
+  -- all that its operations that bind name is complete
+  late_complete : AreReceived shelf.program (state_now shelf).exchange t def
+  late_complete k has =
+      let p : Program = shelf.program in
+      let e : Exchange = (state_now shelf).exchange in
+      let tidy = tidy_now shelf kept t def r.here.was r.here.is_def r.here.is_task in
+      all_complete p e (named_requests t (handles_of (nth_at def k) (slice_get def.body.items k))) (λ q names.
+      elim (tidy.covered k (subst (λ (ks : List ℕ). Contains ks k) (sym r.named) has) q names) [
+        | inl complete ↦ complete
+        | inr bound ↦ one_complete p e r.here.was.bound q (bound_complete r) bound
+      ])
+
+  pub late_received : (u : ℕ) → u ≡ t → AreReceived shelf.engine.program shelf.engine.exchange u def
+  late_received u who =
+      subst (λ (v : ℕ). AreReceived shelf.engine.program shelf.engine.exchange v def) (sym who)
+      (subst (λ (q : Program). AreReceived q shelf.engine.exchange t def) (sym kept.engine_of)
+      (subst (λ (e : Exchange). AreReceived shelf.program e t def) (sym kept.exchange_is) late_complete))
+
+  -- there is room for its statuses, and they are counted in 32 bits
+  pub late_told_room : length shelf.statuses + sum_by tells_late def.body.items ≤ shelf.status_places
+  late_told_room =
+      omega (
+        arith,
+        told_room shelf t _ kept r.may (release_tells r),
+        told_late shelf.program (state_now shelf).exchange t 0 def def.body.items refl,
+      )
+
+  pub late_count : (u : ℕ) (new : List Status)
+      → new ≡ shelf.statuses ++ told_at_release shelf.engine.program shelf.engine.exchange u def (bindings 0 def.body.items)
+      → (length shelf.statuses ≤ length new) × (length new < 2 ^ 32)
+  late_count u new told =
+      let long = long_by shelf.engine.program shelf.engine.exchange u def shelf.statuses new told in
+      let few = told_count shelf t _ kept r.may (release_tells r) in
+      let same = told_late shelf.program (state_now shelf).exchange t 0 def def.body.items refl in
+      (omega arith, omega arith)
+
+  -- what is told, in the state's own terms
+  pub late_tells : (u : ℕ) → u ≡ t → told_at_release shelf.engine.program shelf.engine.exchange u def (bindings 0 def.body.items)
+      ≡ told_at_release shelf.program (state_now shelf).exchange t def r.here.was.named
+  late_tells u who =
+      let all : List ℕ = bindings 0 def.body.items in
+      ap (λ (q : Program). told_at_release q shelf.engine.exchange u def all) kept.engine_of
+      ∙ ap (λ (x : Exchange). told_at_release shelf.program x u def all) kept.exchange_is
+      ∙ ap (λ (v : ℕ). told_at_release shelf.program (state_now shelf).exchange v def all) who
+      ∙ ap (told_at_release shelf.program (state_now shelf).exchange t def) (sym r.named)
+
+  -- the record after what was bound is stored
+  pub late_stored : {stored : Record} → stored ≡ record held {
+    copy = taken_at_release shelf.engine.program shelf.engine.exchange held.task def (bindings 0 def.body.items) held.copy;
+  } → stored ≡ record held { copy = copy_now r }
+  late_stored went =
+      let p : Program = shelf.program in
+      let e : Exchange = (state_now shelf).exchange in
+      let all : List ℕ = bindings 0 def.body.items in
+      went ∙ ap (λ (z : List ℤ). record held { copy = z })
+      (ap (λ (q : Program). taken_at_release q shelf.engine.exchange held.task def all held.copy) kept.engine_of
+      ∙ ap (λ (x : Exchange). taken_at_release p x held.task def all held.copy) kept.exchange_is
+      ∙ ap (λ (v : ℕ). taken_at_release p e v def all held.copy) (sym r.here.who)
+      ∙ ap (λ (ks : List ℕ). taken_at_release p e t def ks held.copy) (sym r.named) ∙ ap (taken_at_release p e t def r.here.was.named) r.here.stands.1)
+
+  -- what is saved, in the state's own terms
+  pub saved_now : (stored : Record) (prog : Program) (before after : List ℤ) → stored ≡ record held { copy = copy_now r }
+      → prog ≡ shelf.program → before ≡ shelf.memory → after ≡ saved prog (def_of stored.program stored.task) stored.copy before
+      → after ≡ saved shelf.program def (copy_now r) (state_now shelf).memory
+  saved_now stored prog before after went same seen put =
+      let p : Program = shelf.program in
+      put ∙ ap (λ (z : Program). saved z (def_of stored.program stored.task) stored.copy before) same
+      ∙ ap (λ (z : Record). saved p (def_of z.program z.task) z.copy before) went
+      ∙ ap (λ (d : TaskDef). saved p d (copy_now r) before) r.here.held_def ∙ ap (saved p def (copy_now r)) (seen ∙ kept.memory_is)
 
 -- the insides after a release
 abbrev pub shelf_released : Shelf → ℕ → Readiness → List ℤ → List Status → List Entry → ℕ → List ℕ → List ReqNo → ℕ → ℕ → ℕ → Shelf
@@ -268,20 +249,20 @@ entry_is s es es' ss ss' more t from count are told is_from is_count grown =
     grown ∙ ap (λ (i : ℕ). es ++ entry.Release (task_no t) i count ∷ []) (is_from ∙ ap (λ (z : List Status). length z) are)
     ∙ ap (λ (i : ℕ). es ++ entry.Release (task_no t) (length s.statuses) i ∷ []) same
 
-pub release_moved : (shelf : Shelf) (held : Record) (t from count unreleased : ℕ) (def : TaskDef) (ready : Readiness) (after : List ℤ)
-    (statuses : List Status) (entries : List Entry) (waits : List ℕ) (found : List ReqNo) (entry_places status_places opened_places : ℕ)
+pub release_moved : {shelf : Shelf} {held : Record} {t from count : ℕ} {def : TaskDef} {ready : Readiness} {after : List ℤ}
+    {statuses : List Status} {entries : List Entry} {found : List ReqNo} (unreleased : ℕ) (waits : List ℕ) (entry_places status_places opened_places : ℕ)
     → KeepsState shelf → (r : Releases shelf held t def) → LetsGo shelf t def r.here.was ready after statuses entries from count found
     → shelf.entry_places ≤ entry_places → shelf.status_places ≤ status_places → shelf.opened_places ≤ opened_places
     → IsMoved shelf (shelf_released shelf t ready after statuses entries unreleased waits found entry_places status_places opened_places) t r.here.was
     (released_task shelf.program (state_now shelf).exchange t def r.here.was)
     (release_move shelf.program (state_now shelf) t def r.here.was)
-release_moved shelf held t from count unreleased def ready after statuses entries waits found entry_places status_places opened_places kept r goes more
-    more' more'' =
+release_moved {shelf = shelf} {held = held} {t = t} {from = from} {count = count} {def = def} {statuses = statuses} {entries = entries}
+    unreleased waits entry_places status_places opened_places kept r goes more more' more'' =
     let s : State = state_now shelf in
     let now : Task = released_task shelf.program s.exchange t def r.here.was in
     record {
       may = r.may;
-      moved = release_made shelf held t def r;
+      moved = release_made r;
       is_task = r.here.is_task;
       tasks = refl;
       program = refl;

@@ -1,50 +1,37 @@
--- What the call and the end of a wait owe, in terms of a book's fields.
+-- What the call of a wait owes, in terms of a book's fields.
 use Rattle.std.proofs.Common.{◌≡◌, ℕ, ◌+◌, ◌^◌, ◌<◌, ◌≤◌, Bool, true, false, cond, List, [], ◌∷◌, ◌++◌, length, slice_get, slice_set, Some, None, Option}
 use Rattle.std.proofs.Common.{refl, sym, ap, ◌∙◌, subst, arith}
-use Rattle.std.specs.Prelude.{ℤ}
 use Rattle.rt_base.specs.Listing.{Listing}
 use Rattle.rt_base.specs.declared.data.ReqNo.{ReqNo}
 use Rattle.rt_base.specs.declared.data.Span.{Span}
 use Rattle.rt_base.specs.declared.data.Handle.{Handle}
 use Rattle.rt_base.specs.declared.data.Op.{Op}
 use Rattle.rt_base.specs.declared.data.Op.TheVariants as op
-use Rattle.rt_base.specs.declared.data.Phase.{Phase}
 use Rattle.rt_base.specs.declared.data.Phase.TheVariants as phase
-use Rattle.rt_base.specs.declared.data.Status.{Status}
 use Rattle.rt_base.specs.declared.data.Entry.{Entry}
 use Rattle.rt_base.specs.declared.data.Entry.TheVariants as entry
 use Rattle.rt_base.specs.declared.data.TaskDef.{TaskDef}
 use Rattle.rt_base.specs.declared.data.Program.{Program}
 use Rattle.rt_base.specs.Operations.{task_no, named_requests, awaited}
-use Rattle.rt_base.specs.Precedes.{GoneMore, LetGo}
 use Rattle.rt_base.specs.Exchange.{Exchange}
-use Rattle.rt_base.specs.State.{State, Task, is_released, let_go}
-use Rattle.rt_base.specs.MayMove.{AreComplete}
-use Rattle.task_local.specs.Waits.{taken, told, handles_of, status_span_of, statuses_of, stored_by_handles, put_statuses}
+use Rattle.rt_base.specs.State.{State, Task, is_released}
+use Rattle.task_local.specs.Waits.{handles_of}
 use Rattle.task_local.specs.Standing.{def_of, phase_before}
 use Rattle.task_local.specs.StandsFor.{Record, StandsFor, StandsAs}
-use Rattle.task_machine.specs.Machine.{Moved, move, call_move, wait_move, open_count, open_ones, awaited_at}
+use Rattle.task_machine.specs.Machine.{Moved, move, call_move, wait_move, open_count, open_ones}
 use Rattle.task_machine.specs.Legal.{final}
 use Rattle.task_machine.specs.Laws.{is_blocking_call}
 use Rattle.task_machine.specs.Owed.{opened_by}
-use Rattle.wait_steps.specs.StatusSpans.{HasPlaces}
-use Rattle.core_book.specs.Ledger.{Ledger, LeavesPending, bound_in, record_at}
-use Rattle.core_book.specs.Kept.{Shelf, IsBook, IsAwait, IsWait, KeepsState, is_posting_at, opens, state_now}
-use Rattle.book_counts.specs.Counted.{IsCounted, IsNumbered, waits_at}
+use Rattle.core_book.specs.Ledger.{Ledger, LeavesPending, record_at}
+use Rattle.core_book.specs.Kept.{Shelf, IsWait, KeepsState, opens, state_now}
+use Rattle.task_machine.specs.Course.{posted_by_phase}
 use Rattle.task_machine.proofs.Rows.{move-row}
 use Rattle.run_bounds.proofs.Changes.{nth_at-same}
 use Rattle.core_book.proofs.Moved.{IsMoved, gone_kept, ledger_of, opened-row}
-use Rattle.run_bounds.proofs.Tells.{statuses_each}
 use Rattle.run_bounds.proofs.Operations.{few_handles}
-use Rattle.core_book.proofs.Held.{handed_of, read_at, theirs}
+use Rattle.core_book.proofs.Held.{handed_of, theirs}
 use Rattle.book_counts.proofs.Awaiting.{awaited_is}
-use Rattle.core_book.proofs.CallLemmas.{Before, before, before_may}
-use Rattle.run_bounds.proofs.Operations.{operation_is}
-use Rattle.core_book.proofs.LeaveLemmas.{Within, enabled_in, leave_room, stored_def}
-use Rattle.book_counts.proofs.Bindings.{BoundAsBefore}
-use Rattle.book_counts.proofs.CountLemmas.{counted_move}
-use Rattle.book_counts.proofs.Numbers.{numbered_on}
-use Rattle.wait_steps.proofs.Naming.{places_of}
+use Rattle.core_book.proofs.Before.{Before, before, before_may}
 
 -- the parts of the wait that an operation is
 pub record WaitIs (operation : Option Op) : Type 0 where
@@ -137,7 +124,7 @@ wait_moved shelf held t k count def named entries waits listed entry_places open
     let s : State = state_now shelf in
     let was : Task = w.it.here.was in
     record {
-      may = before_may shelf held t k def (op.Await false w.parts.handles w.parts.status) w.it;
+      may = before_may w.it;
       moved = wait_made shelf held t k def w;
       is_task = w.it.here.is_task;
       tasks = refl;
@@ -162,31 +149,18 @@ wait_moved shelf held t k count def named entries waits listed entry_places open
       places = record { entries = more; statuses = omega arith; notices = omega arith; opened = more' };
     }
 
--- the counts after the call
-pub wait_counted : (shelf : Shelf) (held : Record) (t k count : ℕ) (def : TaskDef) (named : List Handle) (waits : List ℕ) (gone : LetGo)
-    (bound : ℕ → List ReqNo) → IsBook shelf
-    → (w : Waits shelf held t k def) → named ≡ w.parts.handles.items
-    → count ≡ open_count shelf.engine.program shelf.engine.exchange (named_requests t named) → waits ≡ slice_set shelf.waits t count
-    → GoneMore (let_go (state_now shelf).tasks) gone → BoundAsBefore (bound_in (state_now shelf)) bound
-    → IsCounted shelf.program gone shelf.ready.handed (slice_set shelf.phases t (phase.In k)) bound shelf.engine.exchange shelf.unreleased waits
-wait_counted shelf held t k count def named waits gone bound book w same counted is_ws more as_before =
-    let p : Program = shelf.program in
-    let x : Exchange = shelf.engine.exchange in
-    let number : count ≡ waits_at p x shelf.ready.handed t (phase.In k) (bound t) =
-    counted ∙ ap (λ (q : Program). open_count q x (named_requests t named)) book.kept.engine_of
-    ∙ ap (λ (z : List Handle). open_count p x (named_requests t z)) same ∙ sym (ap (open_count p x) (wait_awaits t k def w.parts))
-    ∙ sym (ap (λ (o : Option TaskDef). open_count p x (awaited_at t o (Some (phase.In k)))) w.it.here.is_def) in
-    counted_move p (let_go (state_now shelf).tasks) gone shelf.ready.handed shelf.phases (bound_in (state_now shelf)) bound x shelf.unreleased
-    shelf.unreleased shelf.waits waits t (phase.At k) (phase.In k) book.counted more
-    (read_at shelf held t def (phase.At k) (phase.At k) book.kept w.it.here w.it.at) refl (λ u other. as_before u)
-    (is_ws ∙ ap (slice_set shelf.waits t) number) refl
+-- as many as the task awaits in it
+pub count_awaited : (shelf : Shelf) (t k count : ℕ) (def : TaskDef) (named : List Handle) → KeepsState shelf → (w : WaitIs (slice_get def.body.items k))
+    → named ≡ w.handles.items → count ≡ open_count shelf.engine.program shelf.engine.exchange (named_requests t named)
+    → count ≡ open_count shelf.program shelf.engine.exchange (awaited t def k)
+count_awaited shelf t k count def named kept w same counted =
+    counted ∙ ap (λ (q : Program). open_count q shelf.engine.exchange (named_requests t named)) kept.engine_of
+    ∙ ap (λ (z : List Handle). open_count shelf.program shelf.engine.exchange (named_requests t z)) same
+    ∙ sym (ap (open_count shelf.program shelf.engine.exchange) (wait_awaits t k def w))
 
-pub wait_numbered : (shelf : Shelf) (held : Record) (t k : ℕ) (def : TaskDef) → IsBook shelf → Waits shelf held t k def
-    → IsNumbered shelf.program (slice_set shelf.phases t (phase.In k)) shelf.posted
-wait_numbered shelf held t k def book w =
-    numbered_on shelf.program shelf.phases shelf.posted t def (phase.At k) (phase.In k) book.numbered w.it.here.is_def
-    (read_at shelf held t def (phase.At k) (phase.At k) book.kept w.it.here w.it.at)
-    (sym (nth_at-same def k (op.Await false w.parts.handles w.parts.status) w.parts.is refl))
+-- it posts nothing
+pub wait_posts : (def : TaskDef) (k : ℕ) (w : WaitIs (slice_get def.body.items k)) → posted_by_phase def (phase.At k) ≡ posted_by_phase def (phase.In k)
+wait_posts def k w = sym (nth_at-same def k (op.Await false w.handles w.status) w.is refl)
 
 -- where the record is left
 pub wait_left : (shelf : Shelf) (held after : Record) (t k : ℕ) (def : TaskDef) → (w : Waits shelf held t k def) → after ≡ record held { phase = phase.In k }
@@ -211,141 +185,7 @@ wait_pending shelf held t k count def named l prog kept w same counted view of_b
     (counted ∙ count_now shelf (named_requests t named) kept
     ∙ ap (λ (z : List Handle). open_count shelf.program (state_now shelf).exchange (named_requests t z)) same))
 
--- a task that is in a wait
-pub record InWait (shelf : Shelf) (held : Record) (t k : ℕ) (def : TaskDef) : Type 0 where
-  pub in_it : Within shelf held t k def
-  pub parts : WaitIs (slice_get def.body.items k)
-
--- an operation that blocks and is no posting is a wait
-waits_in : (o : Option Op) → is_blocking_call o ≡ true → is_posting_at o ≡ false → IsWait o
-waits_in None blocking posts = absurd (cc blocking)
-waits_in (Some (op.Compute kind dst left right value step)) blocking posts = absurd (cc blocking)
-waits_in (Some (op.Post how span peer tag comm status)) blocking posts = absurd (cc posts)
-waits_in (Some (op.Await true handles status)) blocking posts = absurd (cc blocking)
-waits_in (Some (op.Await false handles status)) blocking posts = refl
-
--- a wait, now or later
-waits_some_time : (o : Option Op) → IsWait o → IsAwait o
-waits_some_time None waits = absurd (cc waits)
-waits_some_time (Some (op.Compute kind dst left right value step)) waits = absurd (cc waits)
-waits_some_time (Some (op.Post how span peer tag comm status)) waits = absurd (cc waits)
-waits_some_time (Some (op.Await later handles status)) waits = refl
-
-pub is_wait : (shelf : Shelf) (held : Record) (t k : ℕ) (def : TaskDef) → Within shelf held t k def
-    → is_posting_at (slice_get (def_of held.program held.task).body.items k) ≡ false → IsWait (slice_get def.body.items k)
-is_wait shelf held t k def w other =
-    waits_in (slice_get def.body.items k) w.blocking
-    (subst (λ (d : TaskDef). is_posting_at (slice_get d.body.items k) ≡ false) w.here.held_def other)
-
-pub is_await : (shelf : Shelf) (held : Record) (t k : ℕ) (def : TaskDef) → Within shelf held t k def
-    → is_posting_at (slice_get (def_of held.program held.task).body.items k) ≡ false → IsAwait (slice_get def.body.items k)
-is_await shelf held t k def w other = waits_some_time (slice_get def.body.items k) (is_wait shelf held t k def w other)
-
-pub in_wait : (shelf : Shelf) (held : Record) (t k : ℕ) (def : TaskDef) → Within shelf held t k def
-    → is_posting_at (slice_get (def_of held.program held.task).body.items k) ≡ false → InWait shelf held t k def
-in_wait shelf held t k def w other = record { in_it = w; parts = wait_is (slice_get def.body.items k) (is_wait shelf held t k def w other) }
-
--- what it names is complete, as the task may move
-pub wait_complete : (shelf : Shelf) (held : Record) (t u k : ℕ) (def : TaskDef) (named : List Handle) → KeepsState shelf → (w : InWait shelf held t k def)
-    → named ≡ w.parts.handles.items → u ≡ t → AreComplete shelf.engine.program shelf.engine.exchange (named_requests u named)
-wait_complete shelf held t u k def named kept w same who =
-    subst (λ (v : ℕ). AreComplete shelf.engine.program shelf.engine.exchange (named_requests v named)) (sym who)
-    (subst (λ (z : List Handle). AreComplete shelf.engine.program shelf.engine.exchange (named_requests t z)) (sym same)
-    (subst (λ (q : Program). AreComplete q shelf.engine.exchange (named_requests t w.parts.handles.items)) (sym kept.engine_of)
-    (subst (λ (e : Exchange). AreComplete shelf.program e (named_requests t w.parts.handles.items)) (sym kept.exchange_is)
-    (subst (AreComplete shelf.program (state_now shelf).exchange) (wait_awaits t k def w.parts) (enabled_in shelf held t k def w.in_it)))))
-
 -- its handles are counted in 32 bits
 pub few_named : (shelf : Shelf) (t k : ℕ) (def : TaskDef) → KeepsState shelf → (w : WaitIs (slice_get def.body.items k))
     → slice_get shelf.program.tasks.items t ≡ Some def → length w.handles.items < 2 ^ 32
 few_named shelf t k def kept w is_def = omega (arith, few_handles shelf.program t k def false w.handles w.status kept.well is_def w.is)
-
-pub wait_places : (shelf : Shelf) (held : Record) (t k : ℕ) (def : TaskDef) → KeepsState shelf → (w : InWait shelf held t k def)
-    → HasPlaces def w.parts.status (length w.parts.handles.items)
-wait_places shelf held t k def kept w =
-    places_of shelf.program def w.parts.status (length w.parts.handles.items)
-    (operation_is shelf.program t k def (op.Await false w.parts.handles w.parts.status) kept.well w.in_it.here.is_def w.parts.is)
-
--- what it tells, and what it stores
-pub wait_tells : (shelf : Shelf) (held : Record) (t k : ℕ) (def : TaskDef) (named : List Handle) → KeepsState shelf → (w : InWait shelf held t k def)
-    → named ≡ w.parts.handles.items
-    → statuses_of shelf.engine.program shelf.engine.exchange t named ≡ told shelf.program (state_now shelf).exchange t def k
-unfolding told
-wait_tells shelf held t k def named kept w same =
-    ap (λ (q : Program). statuses_of q shelf.engine.exchange t named) kept.engine_of
-    ∙ ap (λ (e : Exchange). statuses_of shelf.program e t named) kept.exchange_is
-    ∙ ap (statuses_of shelf.program (state_now shelf).exchange t) same ∙ rw (w.parts.is) refl
-
--- there is room for its statuses
-pub wait_told_room : (shelf : Shelf) (held : Record) (t k : ℕ) (def : TaskDef) (named : List Handle) → KeepsState shelf → (w : InWait shelf held t k def)
-    → named ≡ w.parts.handles.items → length shelf.statuses + length named ≤ shelf.status_places
-wait_told_room shelf held t k def named kept w same =
-    omega (
-      arith,
-      leave_room shelf held t k def _ kept w.in_it (wait_tells shelf held t k def named kept w same),
-      statuses_each shelf.engine.program shelf.engine.exchange t named,
-    )
-
-wait_takes : (p : Program) (e : Exchange) (t k : ℕ) (def : TaskDef) (w : WaitIs (slice_get def.body.items k)) (copy : List ℤ)
-    → taken p e t def k copy
-    ≡ put_statuses def w.status (statuses_of p e t w.handles.items) (stored_by_handles p e t def w.handles.items copy)
-unfolding taken told
-wait_takes p e t k def w copy = rw (w.is) refl
-
-pub wait_declared : (shelf : Shelf) (held stored : Record) (t k : ℕ) (def : TaskDef) (copy : List ℤ) (span : Option Span) (told_now : List Status)
-    (named : List Handle) → KeepsState shelf → (w : InWait shelf held t k def) → named ≡ w.parts.handles.items → stored ≡ record held { copy = copy }
-    → status_span_of (slice_get def.body.items k) ≡ span → told_now ≡ statuses_of shelf.engine.program shelf.engine.exchange t named
-    → HasPlaces (def_of stored.program stored.task) span (length told_now)
-wait_declared shelf held stored t k def copy span told_now named kept w same went read tells =
-    let own : def_of stored.program stored.task ≡ def = stored_def held stored def copy w.in_it.here.held_def went in
-    let whose : w.parts.status ≡ span = sym (ap status_span_of w.parts.is) ∙ read in
-    let long : length w.parts.handles.items ≡ length told_now =
-    sym (ap (λ (z : List Status). length z) tells ∙ statuses_each shelf.engine.program shelf.engine.exchange t named
-    ∙ ap (λ (z : List Handle). length z) same) in
-    subst (λ (d : TaskDef). HasPlaces d span (length told_now)) (sym own)
-    (subst (λ (o : Option Span). HasPlaces def o (length told_now)) whose
-    (subst (λ (n : ℕ). HasPlaces def w.parts.status n) long (wait_places shelf held t k def kept w)))
-
--- the copy after both stores
-stored_here : (shelf : Shelf) (held stored : Record) (t u k : ℕ) (def : TaskDef) (named : List Handle) → KeepsState shelf → (w : InWait shelf held t k def)
-    → named ≡ w.parts.handles.items → u ≡ t
-    → stored ≡ record held {
-      copy = stored_by_handles shelf.engine.program shelf.engine.exchange u (def_of held.program held.task) named held.copy;
-    }
-    → stored.copy ≡ stored_by_handles shelf.program (state_now shelf).exchange t def w.parts.handles.items w.in_it.here.was.copy
-stored_here shelf held stored t u k def named kept w same who went =
-    let p : Program = shelf.program in
-    let e : Exchange = (state_now shelf).exchange in
-    ap (λ (z : Record). z.copy) went
-    ∙ ap (λ (q : Program). stored_by_handles q shelf.engine.exchange u (def_of held.program held.task) named held.copy) kept.engine_of
-    ∙ ap (λ (x : Exchange). stored_by_handles p x u (def_of held.program held.task) named held.copy) kept.exchange_is
-    ∙ ap (λ (v : ℕ). stored_by_handles p e v (def_of held.program held.task) named held.copy) who
-    ∙ ap (λ (d : TaskDef). stored_by_handles p e t d named held.copy) w.in_it.here.held_def
-    ∙ ap (λ (z : List Handle). stored_by_handles p e t def z held.copy) same
-    ∙ ap (stored_by_handles p e t def w.parts.handles.items) w.in_it.here.stands.1
-
-pub wait_end : (shelf : Shelf) (held stored put_both after : Record) (t u k : ℕ) (def : TaskDef) (span : Option Span) (told_now : List Status)
-    (named : List Handle) (next : Phase) → KeepsState shelf → (w : InWait shelf held t k def) → named ≡ w.parts.handles.items → u ≡ t
-    → stored ≡ record held {
-      copy = stored_by_handles shelf.engine.program shelf.engine.exchange u (def_of held.program held.task) named held.copy;
-    }
-    → status_span_of (slice_get def.body.items k) ≡ span → told_now ≡ statuses_of shelf.engine.program shelf.engine.exchange t named
-    → put_both ≡ record stored { copy = put_statuses (def_of stored.program stored.task) span told_now stored.copy }
-    → next ≡ phase_before def (k + 1) → after ≡ record put_both { phase = next }
-    → after ≡ record held { phase = phase_before def (k + 1); copy = taken shelf.program (state_now shelf).exchange t def k w.in_it.here.was.copy }
-wait_end shelf held stored put_both after t u k def span told_now named next kept w same who went read tells went' is goes =
-    let p : Program = shelf.program in
-    let e : Exchange = (state_now shelf).exchange in
-    let both : List ℤ = put_statuses (def_of stored.program stored.task) span told_now stored.copy in
-    let mine : told_now ≡ statuses_of p e t w.parts.handles.items =
-    tells ∙ ap (λ (q : Program). statuses_of q shelf.engine.exchange t named) kept.engine_of ∙ ap (λ (x : Exchange). statuses_of p x t named) kept.exchange_is
-    ∙ ap (statuses_of p e t) same in
-    let copied : both ≡ taken p e t def k w.in_it.here.was.copy =
-    ap (λ (d : TaskDef). put_statuses d span told_now stored.copy) (stored_def held stored def _ w.in_it.here.held_def went)
-    ∙ ap (λ (o : Option Span). put_statuses def o told_now stored.copy) (sym read ∙ ap status_span_of w.parts.is)
-    ∙ ap (λ (z : List Status). put_statuses def w.parts.status z stored.copy) mine
-    ∙ ap (put_statuses def w.parts.status (statuses_of p e t w.parts.handles.items)) (stored_here shelf held stored t u k def named kept w same who went)
-    ∙ sym (wait_takes p e t k def w.parts w.in_it.here.was.copy) in
-    goes ∙ ap (λ (z : Record). record z { phase = next }) (went' ∙ ap (λ (z : Record). record z { copy = both }) went)
-    ∙ ap (λ (q : Phase). record held { copy = both; phase = q }) is
-    ∙ ap (λ (z : List ℤ). record held { copy = z; phase = phase_before def (k + 1) }) copied

@@ -113,7 +113,7 @@ wait_move program state t task k reqs = record {
   entry = entry.Call (task_no t) k (open_count program state.exchange reqs);
 }
 
--- operation k binds the requests that it names and that are incomplete, and goes on (TAMPI, TAMPI_Iwait and TAMPI_Iwaitall)
+-- operation k binds the requests that it names, and goes on (TAMPI, TAMPI_Iwait and TAMPI_Iwaitall; that only incomplete ones are bound is this project's)
 abbrev pub bind_move : Program → State → ℕ → TaskDef → Task → ℕ → List ReqNo → Moved
 bind_move program state t def task k reqs = record {
   state = with_task state t (record task {

@@ -12,13 +12,15 @@ use Rattle.core_book.proofs.Insides.{shelf_of}
 use Rattle.run_bounds.proofs.Few.{few_operations}
 use Rattle.core_book.proofs.Moved.{IsMoved, book_after, gone_more, makes_move}
 use Rattle.core_book.proofs.Held.{entry_room, place_within}
-use Rattle.core_book.proofs.CallLemmas.{before_may}
+use Rattle.core_book.proofs.Before.{before_may}
 use Rattle.core_book.proofs.BookMoves.{left_as}
 use Rattle.core_book.proofs.BoundAfter.{bound_more}
-use Rattle.core_book.proofs.BindingMoves.{binding_bind}
-use Rattle.core_book.proofs.CountMoves.{bind_counted}
+use Rattle.core_book.proofs.Figured.{kept_figures, found}
+use Rattle.book_counts.proofs.AfterMoves.{counted_stop}
+use Rattle.book_counts.proofs.Bindings.{binding_bind}
+use Rattle.book_counts.proofs.Numbers.{numbered_stop}
 use Rattle.core_book.proofs.BindLemmas.{Binds, binds_here, bind_names, bind_within, bind_room, bind_few, bind_has, bound_few, incomplete_few, bound_here}
-use Rattle.core_book.proofs.BindLemmas.{shelf_bound, bind_moved, bind_binds, bind_count, bind_marks, bind_numbered, bind_left, bind_stands}
+use Rattle.core_book.proofs.BindLemmas.{shelf_bound, bind_moved, bind_binds, bind_count, bind_marks, bind_posts, bind_left, bind_stands}
 use Rattle.core_book.proofs.BindLemmas.{bind_pending}
 use Rattle.core_book.proofs.book.Book.bind.Goals as goal
 use Rattle.core_book.proofs.book.Book.bind.Goals.{After-clear, After-note}
@@ -124,7 +126,7 @@ overflow_add-k-2 c =
 pub note-requires : goal.note-requires
 note-requires c =
     entry_room (shelf_of c.self.inside) c.task-task.result.0 c.self.invariant.kept
-    (before_may (shelf_of c.self.inside) c.args.rec.now _ _ _ _ (known (goal.at.note-requires c).After-clear).it)
+    (before_may (known (goal.at.note-requires c).After-clear).it)
 
 -- the insides after the call
 abbrev later : (c : After-note) → Shelf
@@ -158,14 +160,15 @@ invariant_of-self c =
     let w = known at in
     let same = named at w in
     let m = moved (goal.at.invariant_of-self c).After-note w same in
+    let f = kept_figures {shelf = s} c.self.invariant in
+    let within = inner at in
     let binds = bound_more _ m refl in
     record {
       kept = book_after c.self.invariant.kept m;
-      counted = bind_counted s held t c.args.k d c.stop.result _ _ c.self.invariant w.it.here w.it.at c.stop.ensures
-          (gone_more m (rw w.it.at refl)) binds.others;
-      numbered = bind_numbered s held t c.args.k d c.stop.result c.self.invariant w c.stop.ensures;
-      binding = binding_bind s t c.bind_all-pending.result named_now _ c.bind_all-pending.new.marks c.raise.new.self c.raise-2.new.self c.self.invariant
-          (exists at) (bind_has s held t c.args.k d named_now c.self.invariant w same)
+      counted = counted_stop f (c.args.k + 1) (found w.it.here) w.it.at refl refl c.stop.ensures (gone_more m (rw w.it.at refl)) binds.others;
+      numbered = numbered_stop f (c.args.k + 1) (found w.it.here) w.it.at (omega arith) (bind_posts d c.args.k w.parts) c.stop.ensures;
+      binding = binding_bind s.program s.engine.exchange _ _ t c.bind_all-pending.result named_now s.marks c.bind_all-pending.new.marks s.bound c.raise.new.self
+          s.incomplete c.raise-2.new.self c.self.invariant.binding (exists at) (bind_has s held t c.args.k d named_now c.self.invariant w same)
           (bind_binds s held t c.args.k d named_now _ c.self.invariant.kept w same binds)
           (bind_count s (named_requests t named_now) _ c.self.invariant.kept c.bind_all-pending.ensures.count)
           (bind_marks s (named_requests t named_now) _ c.self.invariant.kept c.bind_all-pending.ensures.marks) c.raise.ensures c.raise-2.ensures;

@@ -11,13 +11,13 @@ use Rattle.core_book.proofs.BookLemmas.{status_count}
 use Rattle.core_book.proofs.Moved.{IsMoved, book_after, gone_more, makes_move}
 use Rattle.core_book.proofs.Held.{entry_room, place_within}
 use Rattle.core_book.proofs.BookMoves.{left_as}
-use Rattle.core_book.proofs.LeaveLemmas.{Inside, Leaves, inside, is_done, stores, received_fit, status_received, status_declared, shelf_left}
-use Rattle.core_book.proofs.LeaveLemmas.{left_task, told_here, within_body, leave_moved, leave_room, leave_left, leave_record, leave_stands}
+use Rattle.core_book.proofs.Within.{enabled_in, within_body}
+use Rattle.core_book.proofs.LeaveLemmas.{Inside, inside, is_done, stores, received_fit, status_received, status_declared, told_here, leave_left}
+use Rattle.core_book.proofs.LeaveMoved.{Leaves, shelf_left, left_task, leave_moved, leave_room, leave_record, leave_stands}
 use Rattle.core_book.proofs.BoundAfter.{bound_kept}
-use Rattle.core_book.proofs.BindingMoves.{binding_kept}
-use Rattle.core_book.proofs.CountMoves.{leave_counted}
-use Rattle.core_book.proofs.Numbers.{leave_number, leave_numbered}
-use Rattle.book_counts.proofs.Numbers.{last_number, number_some}
+use Rattle.core_book.proofs.Figured.{kept_figures, found}
+use Rattle.book_counts.proofs.AfterMoves.{binding_kept, leave_counted}
+use Rattle.book_counts.proofs.Numbers.{last_number, number_some, numbered_stop, posted_so_far, posting_number}
 use Rattle.core_book.proofs.book.Book.leave_posting.Goals as goal
 use Rattle.core_book.proofs.book.Book.leave_posting.Goals.{After-last-arg-1, After-note}
 
@@ -29,11 +29,10 @@ within c =
     c.task_of-def.ensures c.requires.within c.requires.posts
 
 counts : (c : After-last-arg-1) → slice_get c.self.inside.posted c.task-task.result.0 ≡ Some (nth_at c.task_of-def.result.now c.args.k + 1)
-unfolding within
 counts c =
-    leave_number (shelf_of c.self.inside) c.args.rec.now c.task-task.result.0 c.args.k c.task_of-def.result.now c.args.posting
-    c.self.invariant
-    (within c).in_it.here (within c).posts
+    let i = within c in
+    posting_number c.task_of-def.result.now c.args.k c.task-task.result.0 _ c.self.inside.posted
+    (posted_so_far (kept_figures {shelf = shelf_of c.self.inside} c.self.invariant) (found i.in_it.here) i.in_it.here.stands.0) i.posts.is refl
 
 pub last-requires : goal.last-requires
 last-requires c =
@@ -48,21 +47,16 @@ nth c n read = last_number (nth_at c.task_of-def.result.now c.args.k) c.task-tas
 pub cells-requires : goal.cells-requires
 cells-requires c =
     let at = (goal.at.cells-requires c).After-last-arg-1 in
-    is_done (shelf_of c.self.inside) c.args.rec.now c.task-task.result.0 c.args.k c.last.result c.task_of-def.result.now
-    c.args.posting
-    c.self.invariant.kept (within at) (nth at c.last.result c.last.ensures)
+    is_done c.self.invariant.kept (within at) (nth at c.last.result c.last.ensures)
 
 pub store-requires-clause-declared : goal.store-requires-clause-declared
 store-requires-clause-declared c =
-    stores (shelf_of c.self.inside) c.args.rec.now c.task-task.result.0 c.args.k c.task_of-def.result.now c.args.posting
-    c.self.invariant.kept (within (goal.at.store-requires-clause-declared c).After-last-arg-1)
+    stores c.self.invariant.kept (within (goal.at.store-requires-clause-declared c).After-last-arg-1)
 
 pub store-requires-clause-fits : goal.store-requires-clause-fits
 store-requires-clause-fits c =
     let at = (goal.at.store-requires-clause-fits c).After-last-arg-1 in
-    received_fit (shelf_of c.self.inside) c.args.rec.now c.task-task.result.0 c.args.k c.last.result c.task_of-def.result.now
-    c.args.posting
-    c.cells.result.now c.self.invariant.kept (within at) (nth at c.last.result c.last.ensures) c.cells.ensures
+    received_fit c.self.invariant.kept (within at) (nth at c.last.result c.last.ensures) c.cells.result.now c.cells.ensures
 
 pub count_of-from-requires : goal.count_of-from-requires
 count_of-from-requires c =
@@ -74,40 +68,31 @@ pub tell_status-count-requires-clause-room : goal.tell_status-count-requires-cla
 tell_status-count-requires-clause-room c =
     let at = (goal.at.tell_status-count-requires-clause-room c).After-last-arg-1 in
     let i = within at in
-    leave_room (shelf_of c.self.inside) c.args.rec.now c.task-task.result.0 c.args.k c.task_of-def.result.now _ c.self.invariant.kept i.in_it
-    (told_here (shelf_of c.self.inside) c.task-task.result.0 c.args.k c.last.result c.task_of-def.result.now c.args.posting c.self.invariant.kept i.posts
-    (nth at c.last.result c.last.ensures))
+    leave_room i.in_it _ c.self.invariant.kept (told_here c.self.invariant.kept i (nth at c.last.result c.last.ensures))
 
 pub tell_status-count-requires-clause-complete : goal.tell_status-count-requires-clause-complete
 tell_status-count-requires-clause-complete c =
     let at = (goal.at.tell_status-count-requires-clause-complete c).After-last-arg-1 in
-    is_done (shelf_of c.self.inside) c.args.rec.now c.task-task.result.0 c.args.k c.last.result c.task_of-def.result.now
-    c.args.posting
-    c.self.invariant.kept (within at) (nth at c.last.result c.last.ensures)
+    is_done c.self.invariant.kept (within at) (nth at c.last.result c.last.ensures)
 
 pub store_status-requires-clause-complete : goal.store_status-requires-clause-complete
 store_status-requires-clause-complete c =
     let at = (goal.at.store_status-requires-clause-complete c).After-last-arg-1 in
-    is_done (shelf_of c.self.inside) c.args.rec.now c.task-task.result.0 c.args.k c.last.result c.task_of-def.result.now
-    c.args.posting
-    c.self.invariant.kept (within at) (nth at c.last.result c.last.ensures)
+    is_done c.self.invariant.kept (within at) (nth at c.last.result c.last.ensures)
 
 pub store_status-requires-clause-receive : goal.store_status-requires-clause-receive
 store_status-requires-clause-receive c =
-    status_received (shelf_of c.self.inside) c.args.rec.now c.task-task.result.0 c.args.k c.task_of-def.result.now c.args.posting
-    c.self.invariant.kept (within (goal.at.store_status-requires-clause-receive c).After-last-arg-1)
+    status_received c.self.invariant.kept (within (goal.at.store_status-requires-clause-receive c).After-last-arg-1)
 
 pub store_status-requires-clause-declared : goal.store_status-requires-clause-declared
 store_status-requires-clause-declared c =
-    status_declared (shelf_of c.self.inside) c.args.rec.now c.store.new.self c.task-task.result.0 c.args.k c.task_of-def.result.now
-    c.args.posting _
-    c.self.invariant.kept (within (goal.at.store_status-requires-clause-declared c).After-last-arg-1) c.store.ensures
+    status_declared c.self.invariant.kept (within (goal.at.store_status-requires-clause-declared c).After-last-arg-1) c.store.ensures
 
 -- the next operation has a number
 short : (c : After-last-arg-1) → c.args.k + 1 < 2 ^ 32
 short c =
     let few = few_operations c.args.prog.now c.task-task.result.0 c.task_of-def.result.now c.requires.well_formed c.task_of-def.ensures in
-    let inner = within_body (shelf_of c.self.inside) c.args.rec.now c.task-task.result.0 c.args.k c.task_of-def.result.now (within c).in_it in
+    let inner = within_body (within c).in_it in
     omega arith
 
 pub overflow_add-k : goal.overflow_add-k
@@ -118,7 +103,7 @@ overflow_add-k c =
 pub stop-requires-clause-within : goal.stop-requires-clause-within
 stop-requires-clause-within c =
     let i = within (goal.at.stop-requires-clause-within c).After-last-arg-1 in
-    let inner = within_body (shelf_of c.self.inside) c.args.rec.now c.task-task.result.0 c.args.k c.task_of-def.result.now i.in_it in
+    let inner = within_body i.in_it in
     omega arith
 
 pub stop-requires-clause-few : goal.stop-requires-clause-few
@@ -167,7 +152,7 @@ moved c i is_nth =
     leave_moved s c.args.rec.now c.task-task.result.0 c.args.k c.count_of-from.result c.tell_status-count.result c.task_of-def.result.now _ c.stop.result
     c.tell_status-count.new.statuses.items c.note.new.list.items c.clear.new.self.items (vec_capacity c.note.new.list)
     (vec_capacity c.tell_status-count.new.statuses) (vec_capacity c.clear.new.self) c.self.invariant.kept i.in_it (leaves c)
-    (told_here s c.task-task.result.0 c.args.k c.last.result c.task_of-def.result.now c.args.posting c.self.invariant.kept i.posts is_nth) c.stop.ensures
+    (told_here c.self.invariant.kept i is_nth) c.stop.ensures
     c.clear.ensures.items c.note.ensures.places c.tell_status-count.ensures.places (omega (arith, c.clear.ensures.capacity))
 
 pub invariant_of-self : goal.invariant_of-self
@@ -180,13 +165,15 @@ invariant_of-self c =
     let at = (goal.at.invariant_of-self c).After-last-arg-1 in
     let i = within at in
     let m = moved (goal.at.invariant_of-self c).After-note i (nth at c.last.result c.last.ensures) in
+    let f = kept_figures {shelf = s} c.self.invariant in
+    let inner = within_body i.in_it in
     let same = bound_kept m refl in
     record {
       kept = book_after c.self.invariant.kept m;
-      counted = leave_counted s held t k d c.stop.result _ _ c.self.invariant i.in_it c.stop.ensures
+      counted = leave_counted f k (found i.in_it.here) i.in_it.here.stands.0 (enabled_in i.in_it) c.stop.ensures
           (gone_more m (rw i.in_it.here.stands.0 refl)) same;
-      binding = binding_kept s _ c.self.invariant same;
-      numbered = leave_numbered s held t k d c.stop.result c.self.invariant i.in_it c.stop.ensures;
+      binding = binding_kept f same;
+      numbered = numbered_stop f (k + 1) (found i.in_it.here) i.in_it.here.stands.0 (omega arith) refl c.stop.ensures;
     }
 
 pub returns : goal.returns
@@ -200,9 +187,8 @@ returns c =
     let i = within at in
     let is_nth = nth at c.last.result c.last.ensures in
     let m = moved (goal.at.returns c).After-note i is_nth in
-    let left = leave_left s held c.store.new.self c.store_status.new.rec c.go.new.self t k c.last.result d c.args.posting c.phase_before.result
-    c.cells.result.now c.self.invariant.kept i is_nth
+    let left = leave_left c.self.invariant.kept i is_nth c.cells.result.now
     c.cells.ensures c.store.ensures c.store_status.ensures c.phase_before.ensures c.go.ensures in
     makes_move c.self.invariant.kept m i.in_it.here.is_def i.in_it.here.who i.in_it.here.program
-    (leave_record s held c.go.new.self t k d i.in_it left ∙ sym (left_as s held t d (phase.In k) i.in_it.here))
+    (leave_record i.in_it left ∙ sym (left_as s held t d (phase.In k) i.in_it.here))
     (leave_stands s held c.go.new.self t k d i.in_it.here.was left) c.self.view_is

@@ -16,13 +16,14 @@ use Rattle.core_book.proofs.Moved.{IsMoved, book_after, gone_more, makes_move}
 use Rattle.core_book.proofs.Held.{entry_room, place_within}
 use Rattle.core_book.proofs.BookMoves.{left_as}
 use Rattle.core_book.proofs.BoundAfter.{bound_kept}
-use Rattle.core_book.proofs.BindingMoves.{binding_kept}
-use Rattle.core_book.proofs.CountMoves.{leave_counted}
-use Rattle.core_book.proofs.Numbers.{leave_numbered}
+use Rattle.core_book.proofs.Figured.{kept_figures, found}
+use Rattle.book_counts.proofs.AfterMoves.{binding_kept, leave_counted}
+use Rattle.book_counts.proofs.Numbers.{numbered_stop}
 use Rattle.run_bounds.proofs.Tells.{statuses_each}
-use Rattle.core_book.proofs.LeaveLemmas.{Within, is_within, within_body, shelf_left, left_task, leave_moved, leave_record, leave_stands}
-use Rattle.core_book.proofs.WaitLemmas.{InWait, in_wait, is_await, is_wait, named_are, few_named, wait_complete, wait_told_room, wait_declared, wait_tells}
-use Rattle.core_book.proofs.WaitLemmas.{wait_end}
+use Rattle.core_book.proofs.Within.{Within, enabled_in, is_within, within_body}
+use Rattle.core_book.proofs.LeaveMoved.{shelf_left, left_task, leave_moved, leave_record, leave_stands}
+use Rattle.core_book.proofs.WaitLemmas.{few_named, named_are}
+use Rattle.core_book.proofs.WaitEnds.{InWait, in_wait, is_await, is_wait, wait_complete, wait_told_room, wait_declared, wait_tells, wait_end}
 use Rattle.core_book.proofs.book.Book.leave_wait.Goals as goal
 use Rattle.core_book.proofs.book.Book.leave_wait.Goals.{After-task_of-def, After-handles_at-handles, After-note}
 
@@ -34,8 +35,7 @@ within_it c =
 
 known : (c : After-handles_at-handles) → InWait (shelf_of c.self.inside) c.args.rec.now c.task-task.result.0 c.args.k c.task_of-def.result.now
 known c =
-    in_wait (shelf_of c.self.inside) c.args.rec.now c.task-task.result.0 c.args.k c.task_of-def.result.now
-    (is_within (shelf_of c.self.inside) c.args.rec.now c.task-task.result.0 c.args.k c.task_of-def.result.now c.args.self.now c.args.prog.now
+    in_wait (is_within (shelf_of c.self.inside) c.args.rec.now c.task-task.result.0 c.args.k c.task_of-def.result.now c.args.self.now c.args.prog.now
     c.self.invariant.kept c.self.view_is c.requires.same c.requires.stands c.requires.enabled c.task-task.ensures c.task_of-def.ensures c.requires.within)
     c.requires.other
 
@@ -44,7 +44,7 @@ named : (c : After-handles_at-handles) → (w : InWait (shelf_of c.self.inside) 
 named c w = named_are _ w.parts c.handles_at-handles.result.now (c.handles_at-handles.ensures 0)
 
 inner : (c : After-handles_at-handles) → c.args.k < length c.task_of-def.result.now.body.items
-inner c = within_body (shelf_of c.self.inside) c.args.rec.now c.task-task.result.0 c.args.k c.task_of-def.result.now (known c).in_it
+inner c = within_body (known c).in_it
 
 short : (c : After-handles_at-handles) → c.args.k + 1 < 2 ^ 32
 short c =
@@ -61,24 +61,23 @@ few c =
 pub handles_at-handles-requires-clause-within : goal.handles_at-handles-requires-clause-within
 handles_at-handles-requires-clause-within c =
     let w = within_it (goal.at.handles_at-handles-requires-clause-within c).After-task_of-def in
-    within_body (shelf_of c.self.inside) c.args.rec.now c.task-task.result.0 c.args.k c.task_of-def.result.now w
+    within_body w
 
 pub handles_at-handles-requires-clause-waits : goal.handles_at-handles-requires-clause-waits
 handles_at-handles-requires-clause-waits c =
     let w = within_it (goal.at.handles_at-handles-requires-clause-waits c).After-task_of-def in
-    is_await (shelf_of c.self.inside) c.args.rec.now c.task-task.result.0 c.args.k c.task_of-def.result.now w c.requires.other
+    is_await w c.requires.other
 
 pub status_at-requires-clause-waits : goal.status_at-requires-clause-waits
 status_at-requires-clause-waits c =
     let w = within_it (goal.at.status_at-requires-clause-waits c).After-task_of-def in
-    is_wait (shelf_of c.self.inside) c.args.rec.now c.task-task.result.0 c.args.k c.task_of-def.result.now w c.requires.other
+    is_wait w c.requires.other
 
 pub store_received-requires-clause-complete : goal.store_received-requires-clause-complete
 store_received-requires-clause-complete c =
     let at = (goal.at.store_received-requires-clause-complete c).After-handles_at-handles in
     let w = known at in
-    wait_complete (shelf_of c.self.inside) c.args.rec.now c.task-task.result.0 c.args.rec.now.task c.args.k c.task_of-def.result.now
-    c.handles_at-handles.result.now c.self.invariant.kept w (named at w) (sym c.task-task.ensures)
+    wait_complete c.self.invariant.kept w (named at w) c.args.rec.now.task (sym c.task-task.ensures)
 
 pub count_of-from-requires : goal.count_of-from-requires
 count_of-from-requires c =
@@ -90,15 +89,13 @@ pub tell_each-requires-clause-complete : goal.tell_each-requires-clause-complete
 tell_each-requires-clause-complete c =
     let at = (goal.at.tell_each-requires-clause-complete c).After-handles_at-handles in
     let w = known at in
-    wait_complete (shelf_of c.self.inside) c.args.rec.now c.task-task.result.0 c.task-task.result.0 c.args.k c.task_of-def.result.now
-    c.handles_at-handles.result.now c.self.invariant.kept w (named at w) refl
+    wait_complete c.self.invariant.kept w (named at w) c.task-task.result.0 refl
 
 pub tell_each-requires-clause-room : goal.tell_each-requires-clause-room
 tell_each-requires-clause-room c =
     let at = (goal.at.tell_each-requires-clause-room c).After-handles_at-handles in
     let w = known at in
-    wait_told_room (shelf_of c.self.inside) c.args.rec.now c.task-task.result.0 c.args.k c.task_of-def.result.now c.handles_at-handles.result.now
-    c.self.invariant.kept w (named at w)
+    wait_told_room c.self.invariant.kept w (named at w)
 
 pub status_at-requires-clause-within : goal.status_at-requires-clause-within
 status_at-requires-clause-within c = inner (goal.at.status_at-requires-clause-within c).After-handles_at-handles
@@ -119,8 +116,7 @@ pub store_statuses-requires-clause-declared : goal.store_statuses-requires-claus
 store_statuses-requires-clause-declared c =
     let at = (goal.at.store_statuses-requires-clause-declared c).After-handles_at-handles in
     let w = known at in
-    wait_declared (shelf_of c.self.inside) c.args.rec.now c.store_received.new.rec c.task-task.result.0 c.args.k c.task_of-def.result.now _
-    c.status_at.result c.statuses_from.result.now c.handles_at-handles.result.now c.self.invariant.kept w (named at w) c.store_received.ensures
+    wait_declared c.self.invariant.kept w (named at w) c.store_received.new.rec _ c.status_at.result c.statuses_from.result.now c.store_received.ensures
     c.status_at.ensures
     (told_back c.self.inside.statuses.items _ c.deref-2.result.now c.statuses_from.result.now c.count_of-from.result
     (c.count_of-from.ensures ∙ ap (λ (l : List Status). length l) c.deref.ensures.value) (c.deref-2.ensures.value ∙ c.tell_each.ensures.items)
@@ -183,7 +179,7 @@ moved c w same =
       statuses_are = c.tell_each.ensures.items;
       entries_are = c.note.ensures.items;
     })
-    (wait_tells s c.args.rec.now c.task-task.result.0 c.args.k c.task_of-def.result.now c.handles_at-handles.result.now c.self.invariant.kept w same)
+    (wait_tells c.self.invariant.kept w same)
     c.stop.ensures c.clear.ensures.items c.note.ensures.places c.tell_each.ensures.places (omega (arith, c.clear.ensures.capacity))
 
 pub invariant_of-self : goal.invariant_of-self
@@ -195,13 +191,15 @@ invariant_of-self c =
     let at = (goal.at.invariant_of-self c).After-handles_at-handles in
     let w = known at in
     let m = moved (goal.at.invariant_of-self c).After-note w (named at w) in
+    let f = kept_figures {shelf = s} c.self.invariant in
+    let within = inner at in
     let as_before = bound_kept m refl in
     record {
       kept = book_after c.self.invariant.kept m;
-      counted = leave_counted s held t c.args.k d c.stop.result _ _ c.self.invariant w.in_it c.stop.ensures
+      counted = leave_counted f c.args.k (found w.in_it.here) w.in_it.here.stands.0 (enabled_in w.in_it) c.stop.ensures
           (gone_more m (rw w.in_it.here.stands.0 refl)) as_before;
-      binding = binding_kept s _ c.self.invariant as_before;
-      numbered = leave_numbered s held t c.args.k d c.stop.result c.self.invariant w.in_it c.stop.ensures;
+      binding = binding_kept f as_before;
+      numbered = numbered_stop f (c.args.k + 1) (found w.in_it.here) w.in_it.here.stands.0 (omega arith) refl c.stop.ensures;
     }
 
 pub returns : goal.returns
@@ -214,13 +212,13 @@ returns c =
     let w = known at in
     let same = named at w in
     let m = moved (goal.at.returns c).After-note w same in
-    let left = wait_end s held c.store_received.new.rec c.store_statuses.new.rec c.go.new.self t held.task c.args.k d c.status_at.result
-    c.statuses_from.result.now c.handles_at-handles.result.now c.phase_before.result c.self.invariant.kept w same (sym c.task-task.ensures)
+    let left = wait_end c.self.invariant.kept w same c.store_received.new.rec c.store_statuses.new.rec c.go.new.self held.task c.status_at.result
+    c.statuses_from.result.now c.phase_before.result (sym c.task-task.ensures)
     c.store_received.ensures c.status_at.ensures
     (told_back c.self.inside.statuses.items _ c.deref-2.result.now c.statuses_from.result.now c.count_of-from.result
     (c.count_of-from.ensures ∙ ap (λ (l : List Status). length l) c.deref.ensures.value) (c.deref-2.ensures.value ∙ c.tell_each.ensures.items)
     c.statuses_from.ensures)
     c.store_statuses.ensures c.phase_before.ensures c.go.ensures in
     makes_move c.self.invariant.kept m w.in_it.here.is_def w.in_it.here.who w.in_it.here.program
-    (leave_record s held c.go.new.self t c.args.k d w.in_it left ∙ sym (left_as s held t d (phase.In c.args.k) w.in_it.here))
+    (leave_record w.in_it left ∙ sym (left_as s held t d (phase.In c.args.k) w.in_it.here))
     (leave_stands s held c.go.new.self t c.args.k d w.in_it.here.was left) c.self.view_is

@@ -1,25 +1,31 @@
 -- The book after a posting, and the record.
-use Rattle.std.proofs.Common.{◌≡◌, ◌∙◌, ◌<◌, ℕ, sym, ap, cond, List, [], ◌∷◌, ◌++◌, length, refl, subst, arith}
+use Rattle.std.proofs.Common.{◌≡◌, ◌∙◌, ◌<◌, ℕ, true, sym, ap, cond, List, [], ◌∷◌, ◌++◌, length, slice_set, refl, subst, arith}
 use Rattle.std.specs.Prelude.{vec_capacity, ◌==◌, IfSome}
+use Rattle.std.specs.VecDeque.{deque_capacity}
 use Rattle.rt_base.specs.declared.data.ReqNo.{ReqNo}
 use Rattle.rt_base.specs.declared.data.Phase.TheVariants as phase
-use Rattle.rt_base.specs.Operations.{blocks, nth_at, request, task_no}
+use Rattle.rt_base.specs.declared.data.Program.{Program}
+use Rattle.rt_base.specs.Operations.{blocks, nth_at, request}
 use Rattle.rt_base.specs.Completion.{is_complete}
-use Rattle.task_machine.specs.Owed.{opened}
+use Rattle.task_machine.specs.Machine.{posted_task}
 use Rattle.book_counts.specs.declared.telling.Told.{Told}
-use Rattle.core_book.specs.Kept.{state_now}
-use Rattle.book_counts.specs.Counted.{one_less_for, told_requests}
+use Rattle.core_book.specs.Kept.{Shelf}
+use Rattle.wait_steps.specs.MarkedRows.{is_marked}
+use Rattle.book_counts.specs.Counted.{completed_now, expects_now, holds_now, one_less_for, told_requests}
 use Rattle.core_book.proofs.Insides.{shelf_of}
 use Rattle.run_bounds.proofs.Few.{few_operations}
-use Rattle.core_book.proofs.Moved.{book_after, gone_more, makes_move}
+use Rattle.core_book.proofs.Moved.{IsMoved, book_after, gone_more, makes_move}
 use Rattle.core_book.proofs.Held.{same_program, phases_counted, entry_room, place_within}
 use Rattle.core_book.proofs.BookMoves.{left_as}
-use Rattle.core_book.proofs.CallLemmas.{Calls, Answered, calls, call_within, call_sends, call_receives, call_is_new, call_follows, call_may, call_moved}
-use Rattle.core_book.proofs.CallLemmas.{call_opens, call_left, call_stands, call_pending, post_opens, post_room, posted_bound}
+use Rattle.core_book.proofs.CallLemmas.{Calls, calls, call_within, call_sends, call_receives, call_is_new, call_follows, call_may, post_opens, posting_op}
+use Rattle.core_book.proofs.CallMoved.{Answered, call_left, call_moved, call_moves, call_opens, call_pending, call_stands, post_room, posted_bound}
 use Rattle.core_book.proofs.BoundAfter.{bound_kept}
-use Rattle.core_book.proofs.CountCalls.{binding_call, call_counted, length-one_less_for, told_within}
-use Rattle.core_book.proofs.Numbers.{call_number, call_few, call_numbered}
-use Rattle.book_counts.proofs.Numbers.{numbered_seen}
+use Rattle.core_book.proofs.Figured.{kept_figures, found}
+use Rattle.core_book.proofs.CountCalls.{completes, number_is, seen_as}
+use Rattle.book_counts.proofs.AfterCalls.{binding_call, call_counted}
+use Rattle.book_counts.proofs.Numbers.{few_posted, next_number, numbered_post, numbered_seen}
+use Rattle.book_counts.proofs.Tallies.{length-one_less_for}
+use Rattle.book_counts.proofs.Listeners.{told_exists}
 use Rattle.core_book.proofs.book.Book.post.Goals as goal
 use Rattle.core_book.proofs.book.Book.post.Goals.{After-next-arg-1, After-post-arg-1, After-who_is_told-told, After-note}
 
@@ -35,8 +41,7 @@ index c =
     (phase.At c.args.k) c.self.invariant.kept (at_call c).here
 
 inner : (c : After-next-arg-1) → c.args.k < length c.task_of-def.result.now.body.items
-unfolding at_call
-inner c = call_within c.task_of-def.result.now c.args.k c.args.posting (at_call c).posts
+inner c = call_within (at_call c)
 
 pub next-requires : goal.next-requires
 next-requires c =
@@ -48,38 +53,36 @@ next-requires c =
 nth : (c : After-post-arg-1) → Calls (shelf_of c.self.inside) c.args.rec.now c.task-task.result.0 c.args.k c.task_of-def.result.now
     c.args.posting
     → c.next.result ≡ nth_at c.task_of-def.result.now c.args.k
-nth c call =
-    call_number (shelf_of c.self.inside) c.args.rec.now c.task-task.result.0 c.args.k c.next.result c.task_of-def.result.now
-    c.args.posting
-    c.self.invariant call c.next.ensures
+nth c call = next_number (kept_figures {shelf = shelf_of c.self.inside} c.self.invariant) (found call.here) call.at c.next.ensures
 
 pub post-partner-requires-clause-send : goal.post-partner-requires-clause-send
 post-partner-requires-clause-send c =
     let call = at_call (goal.at.post-partner-requires-clause-send c).After-next-arg-1 in
-    call_sends (shelf_of c.self.inside) c.args.rec.now c.task-task.result.0 c.args.k c.next.result c.task_of-def.result.now
-    c.args.posting c.args.cells.items
-    c.self.invariant.kept call c.requires.packed c.requires.cells (nth (goal.at.post-partner-requires-clause-send c).After-post-arg-1 call)
+    call_sends c.self.invariant.kept call c.requires.packed c.requires.cells (nth (goal.at.post-partner-requires-clause-send c).After-post-arg-1 call)
 
 pub post-partner-requires-clause-receive : goal.post-partner-requires-clause-receive
 post-partner-requires-clause-receive c =
     let call = at_call (goal.at.post-partner-requires-clause-receive c).After-next-arg-1 in
-    call_receives (shelf_of c.self.inside) c.args.rec.now c.task-task.result.0 c.args.k c.next.result c.task_of-def.result.now
-    c.args.posting c.args.cells.items
-    c.self.invariant.kept call c.requires.packed (nth (goal.at.post-partner-requires-clause-receive c).After-post-arg-1 call)
+    call_receives c.self.invariant.kept call c.requires.packed (nth (goal.at.post-partner-requires-clause-receive c).After-post-arg-1 call)
 
 pub post-partner-requires-clause-fresh : goal.post-partner-requires-clause-fresh
 post-partner-requires-clause-fresh c =
     let call = at_call (goal.at.post-partner-requires-clause-fresh c).After-next-arg-1 in
-    call_is_new (shelf_of c.self.inside) c.args.rec.now c.task-task.result.0 c.args.k c.next.result c.task_of-def.result.now
-    c.args.posting
-    c.self.invariant.kept call (nth (goal.at.post-partner-requires-clause-fresh c).After-post-arg-1 call)
+    call_is_new c.self.invariant.kept call (nth (goal.at.post-partner-requires-clause-fresh c).After-post-arg-1 call)
+
+-- who is told, in the book's own terms
+tells : (c : After-who_is_told-told) → told_requests (λ (found : Told). true) c.who_is_told-told.result
+    ≡ completed_now c.self.inside.program.value (expects_now c.self.inside.program.value c.self.inside.phases.items c.self.inside.marks) c.post-partner.result
+tells c =
+    let s = shelf_of c.self.inside in
+    c.who_is_told-told.ensures.told
+    ∙ seen_as (λ q z. completed_now q (expects_now q z s.marks) c.post-partner.result) s.program c.args.prog.now s.phases c.deref.result.now
+    (same_program s c.args.self.now c.args.prog.now c.self.view_is c.requires.same) c.deref.ensures.value
 
 -- who is told is a task of the program
 told : (c : After-who_is_told-told) → IfSome c.who_is_told-told.result (λ (found : Told). found.req.task.0 < length c.self.inside.program.value.tasks.items)
 told c =
-    let s = shelf_of c.self.inside in
-    told_within s c.args.prog.now c.deref.result.now c.who_is_told-told.result c.post-partner.result c.self.invariant
-    (same_program s c.args.self.now c.args.prog.now c.self.view_is c.requires.same) c.deref.ensures.value c.who_is_told-told.ensures.told
+    told_exists (kept_figures {shelf = shelf_of c.self.inside} c.self.invariant) c.who_is_told-told.result c.post-partner.result (tells c)
 
 pub lower_bound-requires : goal.lower_bound-requires
 lower_bound-requires c =
@@ -101,8 +104,7 @@ who_is_told-told-requires-clause-numbered c =
 pub note_some-requires : goal.note_some-requires
 note_some-requires c =
     let call = at_call (goal.at.note_some-requires c).After-next-arg-1 in
-    let fits = post_opens (shelf_of c.self.inside) c.args.rec.now c.task-task.result.0 c.args.k c.task_of-def.result.now c.args.posting
-    c.self.invariant.kept call in
+    let fits = post_opens c.self.invariant.kept call in
     omega (arith, ap (λ (z : List ReqNo). length z) c.clear.ensures.items, c.clear.ensures.capacity)
 
 pub add-requires-clause-within : goal.add-requires-clause-within
@@ -113,9 +115,9 @@ add-requires-clause-within c =
 
 pub add-requires-clause-few : goal.add-requires-clause-few
 add-requires-clause-few c =
-    call_few (shelf_of c.self.inside) c.args.rec.now c.task-task.result.0 c.args.k c.next.result c.task_of-def.result.now
-    c.args.posting c.self.invariant
-    (at_call (goal.at.add-requires-clause-few c).After-next-arg-1) c.next.ensures
+    let call = at_call (goal.at.add-requires-clause-few c).After-next-arg-1 in
+    few_posted (kept_figures {shelf = shelf_of c.self.inside} c.self.invariant) (found call.here) call.at
+    (inner (goal.at.add-requires-clause-few c).After-next-arg-1) c.next.ensures
 
 pub phase_after-requires-clause-within : goal.phase_after-requires-clause-within
 phase_after-requires-clause-within c = inner (goal.at.phase_after-requires-clause-within c).After-next-arg-1
@@ -135,15 +137,12 @@ pub place_after-requires-clause-few : goal.place_after-requires-clause-few
 place_after-requires-clause-few c = few_operations c.args.prog.now c.task-task.result.0 c.task_of-def.result.now c.requires.well_formed c.task_of-def.ensures
 
 pub go-requires-clause-goes_to : goal.go-requires-clause-goes_to
-go-requires-clause-goes_to c =
-    call_follows (shelf_of c.self.inside) c.args.rec.now c.task-task.result.0 c.args.k c.task_of-def.result.now c.args.posting
-    c.place_after.result
-    (at_call (goal.at.go-requires-clause-goes_to c).After-next-arg-1) c.place_after.ensures
+go-requires-clause-goes_to c = call_follows (at_call (goal.at.go-requires-clause-goes_to c).After-next-arg-1) c.place_after.ensures
 
 pub note-requires : goal.note-requires
 note-requires c =
     entry_room (shelf_of c.self.inside) c.task-task.result.0 c.self.invariant.kept
-    (call_may (shelf_of c.self.inside) c.args.rec.now _ _ _ _ (at_call (goal.at.note-requires c).After-next-arg-1))
+    (call_may (at_call (goal.at.note-requires c).After-next-arg-1))
 
 pub set-requires : goal.set-requires
 set-requires c =
@@ -189,93 +188,83 @@ answered c is_nth = record {
 pub tell-requires : goal.tell-requires
 tell-requires c = record {
   room =
-      let s = shelf_of c.self.inside in
+      let told_here = (goal.at.tell-requires c).After-who_is_told-told in
       let call = at_call (goal.at.tell-requires c).After-next-arg-1 in
-      let a = asked (goal.at.tell-requires c).After-who_is_told-told (nth (goal.at.tell-requires c).After-post-arg-1 call) in
-      post_room s c.args.rec.now c.task-task.result.0 c.args.k c.next.result _ c.task_of-def.result.now c.args.posting c.args.cells.items
-      c.post-partner.new.engine c.post-partner.result c.args.prog.now c.deref.result.now _ c.self.invariant.kept c.self.invariant.binding.marked call a
-      (same_program s c.args.self.now c.args.prog.now c.self.view_is c.requires.same) c.deref.ensures.value c.who_is_told-told.ensures.told;
+      let a = asked told_here (nth (goal.at.tell-requires c).After-post-arg-1 call) in
+      post_room c.self.invariant.kept call a c.self.invariant.binding.marked (tells told_here);
 }
 
--- what the move opens
-opens : (c : After-note) → (call : Calls (shelf_of c.self.inside) c.args.rec.now c.task-task.result.0 c.args.k c.task_of-def.result.now c.args.posting)
+-- the insides after the call
+abbrev later : (c : After-note) → Shelf
+later c = record (shelf_of c.self.inside) {
+  engine = c.post-partner.new.engine;
+  phases = slice_set c.self.inside.phases.items c.task-task.result.0 c.phase_after.result;
+  notices = c.tell.new.notices.items;
+  entries = c.note.new.list.items;
+  waits = c.set.new.self;
+  posted = c.add.new.self;
+  incomplete = c.lower_bound.new.incomplete;
+  opened = c.note_some.new.list.items;
+  entry_places = vec_capacity c.note.new.list;
+  notice_places = deque_capacity c.tell.new.notices;
+  opened_places = vec_capacity c.note_some.new.list;
+}
+
+moved : (c : After-note) → told_requests (λ (found : Told). true) c.who_is_told-told.result
+    ≡ completed_now c.self.inside.program.value (expects_now c.self.inside.program.value c.self.inside.phases.items c.self.inside.marks) c.post-partner.result
+    → (call : Calls (shelf_of c.self.inside) c.args.rec.now c.task-task.result.0 c.args.k c.task_of-def.result.now c.args.posting)
     → Answered (shelf_of c.self.inside) c.args.rec.now c.task-task.result.0 c.args.k c.next.result c.pending-pending.result
     c.task_of-def.result.now c.args.posting c.args.cells.items c.post-partner.new.engine c.post-partner.result
-    → c.note_some.new.list.items ≡ opened (shelf_of c.self.inside).program (state_now (shelf_of c.self.inside)) c.task-task.result.0
-opens c call a =
-    call_opens (shelf_of c.self.inside) c.args.rec.now c.task-task.result.0 c.args.k c.next.result c.pending-pending.result c.waits_after-awaited.result
-    c.task_of-def.result.now c.args.posting c.args.cells.items c.post-partner.new.engine c.post-partner.result c.note_some.new.list.items
-    c.self.invariant.kept call a c.waits_after-awaited.ensures
-    (c.note_some.ensures.items ∙ ap (λ (z : List ReqNo). z ++ cond (c.waits_after-awaited.result == 0) [] (record {
-      task = task_no c.task-task.result.0;
-      nth = c.next.result;
-    } ∷ [])) c.clear.ensures.items)
+    → IsMoved (shelf_of c.self.inside) (later c) c.task-task.result.0 call.here.was
+    (posted_task c.task_of-def.result.now c.args.k (blocks c.args.posting.how) call.here.was) (call_moves call)
+moved c is_told call a =
+    let s = shelf_of c.self.inside in
+    let listed = call_opens c.self.invariant.kept call a c.waits_after-awaited.ensures (c.note_some.ensures.items
+    ∙ ap (λ (z : List ReqNo). z ++ cond (c.waits_after-awaited.result == 0) [] (request c.task-task.result.0 c.next.result ∷ [])) c.clear.ensures.items) in
+    call_moved c.self.invariant.kept call a c.phase_after.result c.tell.new.notices.items c.note.new.list.items c.set.new.self c.add.new.self
+    c.lower_bound.new.incomplete c.note_some.new.list.items (vec_capacity c.note.new.list) (deque_capacity c.tell.new.notices)
+    (vec_capacity c.note_some.new.list) c.self.invariant.binding.marked (c.tell.ensures.items ∙ ap (λ (z : List ReqNo). s.notices ++ z) is_told)
+    c.phase_after.ensures c.note.ensures.items listed c.note.ensures.places c.tell.ensures.places
+    (omega (arith, c.clear.ensures.capacity, c.note_some.ensures.places))
 
 pub invariant_of-self : goal.invariant_of-self
 invariant_of-self c =
     let s = shelf_of c.self.inside in
-    let held = c.args.rec.now in
-    let t = c.task-task.result.0 in
-    let k = c.args.k in
-    let n = c.next.result in
-    let count = c.pending-pending.result in
-    let d = c.task_of-def.result.now in
-    let posting = c.args.posting in
-    let engine = c.post-partner.new.engine in
-    let found = c.post-partner.result in
+    let found_now = c.post-partner.result in
     let call = at_call (goal.at.invariant_of-self c).After-next-arg-1 in
     let a = answered (goal.at.invariant_of-self c).After-note (nth (goal.at.invariant_of-self c).After-post-arg-1 call) in
     let same = same_program s c.args.self.now c.args.prog.now c.self.view_is c.requires.same in
-    let m = call_moved s held t k n count d posting c.args.cells.items engine found c.args.prog.now c.deref.result.now c.phase_after.result
-    c.tell.new.notices.items c.note.new.list.items
-    c.set.new.self c.add.new.self c.lower_bound.new.incomplete c.note_some.new.list.items _ _ (vec_capacity c.note_some.new.list) c.self.invariant.kept
-    c.self.invariant.binding.marked call a same c.deref.ensures.value
-    (c.tell.ensures.items ∙ ap (λ (z : List ReqNo). s.notices ++ z) c.who_is_told-told.ensures.told) c.phase_after.ensures c.note.ensures.items
-    (opens (goal.at.invariant_of-self c).After-note call a) c.note.ensures.places c.tell.ensures.places
-    (omega (arith, c.clear.ensures.capacity, c.note_some.ensures.places)) in
-    let kept = bound_kept m (posted_bound d k (blocks posting.how) call.here.was) in
+    let m = moved (goal.at.invariant_of-self c).After-note (tells (goal.at.invariant_of-self c).After-who_is_told-told) call a in
+    let as_before = bound_kept m (posted_bound c.task_of-def.result.now c.args.k (blocks c.args.posting.how) call.here.was) in
+    let f = kept_figures {shelf = s} c.self.invariant in
+    let made = completes c.self.invariant.kept a in
+    let x = posting_op c.args.posting _ call.posts in
     record {
       kept = book_after c.self.invariant.kept m;
-      counted = call_counted s held t k n count c.waits_after-awaited.result d posting c.args.cells.items engine found c.args.prog.now c.deref.result.now
-          c.phase_after.result c.lower_waited.new.waits
-          c.set.new.self _ _ c.self.invariant call a same c.deref.ensures.value
-          (c.lower_waited.ensures ∙ ap (one_less_for s.waits) c.who_is_told-told.ensures.waited) c.waits_after-awaited.ensures c.set.ensures
-          c.phase_after.ensures (gone_more m (rw call.at refl)) kept;
-      numbered = call_numbered s held t k n d posting c.phase_after.result c.add.new.self c.self.invariant call c.next.ensures c.add.ensures
-          c.phase_after.ensures;
-      binding = binding_call s held t k n count d posting c.args.cells.items engine found c.args.prog.now c.lower_bound.new.incomplete _ c.self.invariant call
-          a same (c.lower_bound.ensures ∙ ap (one_less_for s.incomplete) c.who_is_told-told.ensures.bound) kept;
+      counted = call_counted f x (blocks c.args.posting.how) (found call.here) call.at call.posts.is refl made
+          (number_is c.self.invariant.kept a c.waits_after-awaited.ensures)
+          (c.set.ensures ∙ ap (λ (z : List ℕ). slice_set z c.task-task.result.0 c.waits_after-awaited.result) (c.lower_waited.ensures
+          ∙ ap (one_less_for s.waits) (c.who_is_told-told.ensures.waited ∙ seen_as (λ q z. completed_now q (holds_now q z s.marks) found_now)
+          s.program c.args.prog.now s.phases c.deref.result.now same c.deref.ensures.value)))
+          c.phase_after.ensures (gone_more m (rw call.at refl)) as_before;
+      numbered = numbered_post f x (blocks c.args.posting.how) (found call.here) call.at call.posts.is refl c.next.ensures c.add.ensures c.phase_after.ensures;
+      binding = binding_call f (found call.here) call.at made (c.lower_bound.ensures ∙ ap (one_less_for s.incomplete) (c.who_is_told-told.ensures.bound
+          ∙ ap (λ (q : Program). completed_now q (is_marked s.marks) found_now) same)) as_before;
     }
 
 pub returns-clause-moves : goal.returns-clause-moves
 returns-clause-moves c =
     let s = shelf_of c.self.inside in
-    let held = c.args.rec.now in
-    let t = c.task-task.result.0 in
-    let k = c.args.k in
-    let d = c.task_of-def.result.now in
-    let posting = c.args.posting in
     let call = at_call (goal.at.returns-clause-moves c).After-next-arg-1 in
     let a = answered (goal.at.returns-clause-moves c).After-note (nth (goal.at.returns-clause-moves c).After-post-arg-1 call) in
-    let m = call_moved s held t k c.next.result c.pending-pending.result d posting c.args.cells.items c.post-partner.new.engine c.post-partner.result
-    c.args.prog.now c.deref.result.now
-    c.phase_after.result c.tell.new.notices.items c.note.new.list.items c.set.new.self c.add.new.self c.lower_bound.new.incomplete
-    c.note_some.new.list.items _ _ (vec_capacity c.note_some.new.list) c.self.invariant.kept c.self.invariant.binding.marked call a
-    (same_program s c.args.self.now c.args.prog.now c.self.view_is c.requires.same) c.deref.ensures.value
-    (c.tell.ensures.items ∙ ap (λ (z : List ReqNo). s.notices ++ z) c.who_is_told-told.ensures.told) c.phase_after.ensures
-    c.note.ensures.items (opens (goal.at.returns-clause-moves c).After-note call a)
-    c.note.ensures.places c.tell.ensures.places (omega (arith, c.clear.ensures.capacity, c.note_some.ensures.places)) in
+    let m = moved (goal.at.returns-clause-moves c).After-note (tells (goal.at.returns-clause-moves c).After-who_is_told-told) call a in
     makes_move c.self.invariant.kept m call.here.is_def call.here.who call.here.program
-    (call_left s held c.go.new.self k d posting c.place_after.result call.posts c.place_after.ensures c.go.ensures
-    ∙ sym (left_as s held t d (phase.At k) call.here))
-    (call_stands s held c.go.new.self t k d posting c.place_after.result call c.place_after.ensures c.go.ensures) c.self.view_is
+    (call_left call c.place_after.ensures c.go.ensures
+    ∙ sym (left_as s c.args.rec.now c.task-task.result.0 c.task_of-def.result.now (phase.At c.args.k) call.here))
+    (call_stands call c.place_after.ensures c.go.ensures) c.self.view_is
 
 pub returns-clause-pending : goal.returns-clause-pending
 returns-clause-pending c =
     let call = at_call (goal.at.returns-clause-pending c).After-next-arg-1 in
     let a = answered (goal.at.returns-clause-pending c).After-note (nth (goal.at.returns-clause-pending c).After-post-arg-1 call) in
-    call_pending (shelf_of c.self.inside) c.args.rec.now c.task-task.result.0 c.args.k c.next.result c.pending-pending.result
-    c.task_of-def.result.now
-    c.args.posting c.args.cells.items c.post-partner.new.engine c.post-partner.result c.args.self.now c.args.prog.now c.self.invariant.kept
-    call a c.self.view_is
-    c.requires.same
+    call_pending c.self.invariant.kept call a c.self.view_is c.requires.same

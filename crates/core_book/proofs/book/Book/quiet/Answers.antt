@@ -5,7 +5,9 @@ use Rattle.std.specs.Prelude.{List}
 use Rattle.task_machine.specs.Legal.{final, IsQuiet}
 use Rattle.core_book.proofs.Insides.{shelf_of}
 use Rattle.core_book.proofs.Held.{own, theirs}
-use Rattle.core_book.proofs.Quiet.{quiet_if, none_counted, none_left}
+use Rattle.core_book.proofs.BookLemmas.{may_be_handed, startable_here}
+use Rattle.core_book.proofs.Figured.{kept_figures}
+use Rattle.book_counts.proofs.Quiet.{quiet_if, none_counted, none_left}
 use Rattle.core_book.proofs.book.Book.quiet.Goals as goal
 
 -- a state of the program is quiet
@@ -16,9 +18,11 @@ pub returns-then-none_zero : goal.returns-then-none_zero
 returns-then-none_zero c =
     let s = shelf_of c.self.inside in (
       λ yes. theirs Quiet s c.args.self.now c.args.prog.now c.self.view_is c.requires.same
-          (quiet_if s c.self.invariant (c.none_zero.ensures.0 c.if-none_zero.true) (c.none_startable.ensures.0 yes)),
-      λ quiet. c.none_startable.ensures.1
-          (none_left s c.self.invariant.kept (own Quiet s c.args.self.now c.args.prog.now c.self.view_is c.requires.same quiet)),
+          (quiet_if (kept_figures {shelf = s} c.self.invariant) (c.none_zero.ensures.0 c.if-none_zero.true)
+          (λ t may. c.none_startable.ensures.0 yes t (startable_here s t c.self.invariant.kept may))),
+      λ quiet. c.none_startable.ensures.1 (λ t startable.
+          none_left (kept_figures {shelf = s} c.self.invariant) (own Quiet s c.args.self.now c.args.prog.now c.self.view_is c.requires.same quiet) t
+          (may_be_handed s t c.self.invariant.kept startable)),
     )
 
 pub returns-else-none_zero : goal.returns-else-none_zero
@@ -27,6 +31,7 @@ returns-else-none_zero c =
       λ yes. absurd (cc yes),
       λ quiet. absurd (cc (
         c.if-none_zero.false,
-        c.none_zero.ensures.1 (none_counted s c.self.invariant (own Quiet s c.args.self.now c.args.prog.now c.self.view_is c.requires.same quiet)),
+        c.none_zero.ensures.1 (none_counted (kept_figures {shelf = s} c.self.invariant)
+            (own Quiet s c.args.self.now c.args.prog.now c.self.view_is c.requires.same quiet)),
       )),
     )

@@ -2,8 +2,9 @@
 use Rattle.std.proofs.Common.{ℕ, Some, None, IfNone, sym, subst}
 use Rattle.core_book.specs.Ledger.{IsReady}
 use Rattle.core_book.proofs.Insides.{shelf_of}
-use Rattle.core_book.proofs.BookLemmas.{ready_book, ready_none}
-use Rattle.core_book.proofs.CountMoves.{ready_counted}
+use Rattle.core_book.proofs.BookLemmas.{may_be_handed, ready_book, ready_none}
+use Rattle.core_book.proofs.Figured.{kept_figures}
+use Rattle.book_counts.proofs.Quiet.{ready_counted}
 use Rattle.core_book.proofs.book.Book.ready.Goals as goal
 
 pub returns-in_err-task-clause-none : goal.returns-in_err-task-clause-none
@@ -18,7 +19,8 @@ invariant_of-self-2 c =
     record {
       kept = ready_book s c.next_startable.new.self c.set.new.self (Some c.in_ok-task.task) c.self.invariant.kept e.program e.gone e.places e.handed
           e.unchanged;
-      counted = ready_counted s c.in_ok-task.task.0 c.next_startable.new.self.handed c.set.new.self c.self.invariant e.startable e.handed c.set.ensures;
+      counted = ready_counted (kept_figures {shelf = s} c.self.invariant) c.in_ok-task.task.0 c.next_startable.new.self.handed c.set.new.self
+          (may_be_handed s c.in_ok-task.task.0 c.self.invariant.kept e.startable) e.handed c.set.ensures;
       numbered = c.self.invariant.numbered;
       binding = c.self.invariant.binding;
     }

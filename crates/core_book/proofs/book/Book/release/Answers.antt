@@ -4,19 +4,19 @@ use Rattle.std.specs.Prelude.{ℤ, vec_capacity}
 use Rattle.std.proofs.lemmas.Option.{slice_get_within}
 use Rattle.rt_base.specs.declared.data.Phase.TheVariants as phase
 use Rattle.rt_base.specs.declared.data.Status.{Status}
-use Rattle.task_local.specs.Waits.{taken_at_release}
+use Rattle.task_machine.specs.Machine.{release_move}
 use Rattle.core_book.specs.Kept.{state_now}
 use Rattle.core_book.proofs.Insides.{shelf_of}
 use Rattle.core_book.proofs.BookLemmas.{status_count}
 use Rattle.core_book.proofs.BookMoves.{left_as}
-use Rattle.core_book.proofs.Moved.{book_after, gone_more, makes_move, still_held}
+use Rattle.core_book.proofs.Moved.{IsMoved, book_after, gone_more, makes_move, still_held}
 use Rattle.core_book.proofs.Held.{entry_room, handed_of, place_within, same_program}
 use Rattle.core_book.proofs.BoundAfter.{bound_kept}
-use Rattle.core_book.proofs.BindingMoves.{binding_kept}
-use Rattle.core_book.proofs.CountMoves.{release_counted, some_unreleased}
-use Rattle.core_book.proofs.Numbers.{release_numbered}
-use Rattle.core_book.proofs.ReleaseLemmas.{Releases, LetsGo, releases, late_received, late_told_room, late_count, late_stored, late_tells, release_left}
-use Rattle.core_book.proofs.ReleaseLemmas.{release_stands, saved_now, release_moved, whole_back}
+use Rattle.core_book.proofs.Figured.{kept_figures, found}
+use Rattle.book_counts.proofs.AfterMoves.{binding_kept, release_counted, some_unreleased}
+use Rattle.book_counts.proofs.Numbers.{numbered_next}
+use Rattle.core_book.proofs.ReleaseLemmas.{Releases, LetsGo, copy_now, releases, late_received, late_told_room, late_count, late_stored, late_tells}
+use Rattle.core_book.proofs.ReleaseLemmas.{release_left, release_stands, released_task, saved_now, shelf_released, release_moved, whole_back}
 use Rattle.core_book.proofs.book.Book.release.Goals as goal
 use Rattle.core_book.proofs.book.Book.release.Goals.{After-note, After-task_of}
 
@@ -39,18 +39,15 @@ known c =
 
 pub take_bound-requires-clause-received : goal.take_bound-requires-clause-received
 take_bound-requires-clause-received c =
-    late_received (shelf_of c.self.inside) c.args.rec.now c.task-task.result.0 c.args.rec.now.task c.task_of.result.now c.self.invariant.kept
-    (known (goal.at.take_bound-requires-clause-received c).After-task_of) (sym c.task-task.ensures)
+    late_received c.self.invariant.kept (known (goal.at.take_bound-requires-clause-received c).After-task_of) c.args.rec.now.task (sym c.task-task.ensures)
 
 pub take_bound-requires-clause-room : goal.take_bound-requires-clause-room
-take_bound-requires-clause-room c =
-    late_told_room (shelf_of c.self.inside) c.args.rec.now c.task-task.result.0 c.task_of.result.now c.self.invariant.kept
-    (known (goal.at.take_bound-requires-clause-room c).After-task_of)
+take_bound-requires-clause-room c = late_told_room c.self.invariant.kept (known (goal.at.take_bound-requires-clause-room c).After-task_of)
 
 pub count_of-requires : goal.count_of-requires
 count_of-requires c =
-    let few = late_count (shelf_of c.self.inside) c.args.rec.now c.task-task.result.0 c.args.rec.now.task c.task_of.result.now c.take_bound.new.statuses.items
-    c.self.invariant.kept (known (goal.at.count_of-requires c).After-task_of) c.take_bound.ensures.told in
+    let few = late_count c.self.invariant.kept (known (goal.at.count_of-requires c).After-task_of) c.args.rec.now.task c.take_bound.new.statuses.items
+    c.take_bound.ensures.told in
     let seen = ap (λ (l : List Status). length l) c.deref-2.ensures.value in
     omega (arith, few.1)
 
@@ -64,7 +61,7 @@ index_mut-requires c =
 pub overflow_sub-self : goal.overflow_sub-self
 overflow_sub-self c =
     let r = known (goal.at.overflow_sub-self c).After-task_of in
-    let some = some_unreleased (shelf_of c.self.inside) c.args.rec.now c.task-task.result.0 c.task_of.result.now c.self.invariant r.here in
+    let some = some_unreleased (kept_figures {shelf = shelf_of c.self.inside} c.self.invariant) (found r.here) r.here.stands.0 in
     omega arith
 
 pub set-requires : goal.set-requires
@@ -103,13 +100,8 @@ long_back c = ap (λ (z : List ℤ). length z) (back c) ∙ c.save.auto.memory �
 
 -- the record with what was bound in its copy
 stored : (c : After-note) → (r : Releases (shelf_of c.self.inside) c.args.rec.now c.task-task.result.0 c.task_of.result.now)
-    → c.take_bound.new.rec ≡ record c.args.rec.now {
-      copy = taken_at_release (shelf_of c.self.inside).program (state_now (shelf_of c.self.inside)).exchange c.task-task.result.0 c.task_of.result.now
-          r.here.was.named r.here.was.copy;
-    }
-stored c r =
-    late_stored (shelf_of c.self.inside) c.args.rec.now c.take_bound.new.rec c.task-task.result.0 c.task_of.result.now c.self.invariant.kept r
-    c.take_bound.ensures.stored
+    → c.take_bound.new.rec ≡ record c.args.rec.now { copy = copy_now r }
+stored c r = late_stored c.self.invariant.kept r c.take_bound.ensures.stored
 
 -- what the calls have answered
 goes : (c : After-note) → (r : Releases (shelf_of c.self.inside) c.args.rec.now c.task-task.result.0 c.task_of.result.now)
@@ -119,62 +111,55 @@ goes : (c : After-note) → (r : Releases (shelf_of c.self.inside) c.args.rec.no
 goes c r =
     let s = shelf_of c.self.inside in
     let held = c.args.rec.now in
-    let t = c.task-task.result.0 in
-    let d = c.task_of.result.now in
     let from = c.count_of-from.ensures ∙ ap (λ (l : List Status). length l) c.deref.ensures.value in
     let until = c.count_of.ensures ∙ ap (λ (l : List Status). length l) c.deref-2.ensures.value in
-    let more = late_count s held t held.task d c.take_bound.new.statuses.items c.self.invariant.kept r c.take_bound.ensures.told in
+    let more = late_count c.self.invariant.kept r held.task c.take_bound.new.statuses.items c.take_bound.ensures.told in
     record {
       long = long_back c;
-      put = back c ∙ saved_now s held c.take_bound.new.rec t d c.args.prog.now _ c.save.new.memory c.self.invariant.kept r (stored c r)
+      put = back c ∙ saved_now c.self.invariant.kept r c.take_bound.new.rec c.args.prog.now _ c.save.new.memory (stored c r)
           (same_program s c.args.self.now c.args.prog.now c.self.view_is c.requires.same) c.deref_mut.ensures.value c.save.ensures;
       of_program = c.release.ensures.program;
       marks = c.release.ensures.handed;
       freed = c.release.ensures.released;
       whole = c.release.ensures.places;
       told = c.take_bound.ensures.told
-          ∙ ap (λ (z : List Status). c.self.inside.statuses.items ++ z) (late_tells s held t held.task d c.self.invariant.kept r (sym c.task-task.ensures));
+          ∙ ap (λ (z : List Status). c.self.inside.statuses.items ++ z) (late_tells c.self.invariant.kept r held.task (sym c.task-task.ensures));
       from_is = from;
       count_is = omega (arith, from, until, more.0);
       grown = c.note.ensures.items;
       none = c.clear.ensures.items;
     }
 
+moved : (c : After-note) → (r : Releases (shelf_of c.self.inside) c.args.rec.now c.task-task.result.0 c.task_of.result.now)
+    → IsMoved (shelf_of c.self.inside) (shelf_released (shelf_of c.self.inside) c.task-task.result.0 c.release.new.self
+    (take c.self.inside.memory.len (c.save.new.memory ++ drop (length c.save.new.memory) c.self.inside.memory.items)) c.take_bound.new.statuses.items
+    c.note.new.list.items (c.self.inside.unreleased - 1) c.set.new.self c.clear.new.self.items (vec_capacity c.note.new.list)
+    (vec_capacity c.take_bound.new.statuses) (vec_capacity c.clear.new.self)) c.task-task.result.0 r.here.was
+    (released_task (shelf_of c.self.inside).program (state_now (shelf_of c.self.inside)).exchange c.task-task.result.0 c.task_of.result.now r.here.was)
+    (release_move (shelf_of c.self.inside).program (state_now (shelf_of c.self.inside)) c.task-task.result.0 c.task_of.result.now r.here.was)
+moved c r =
+    release_moved (c.self.inside.unreleased - 1) c.set.new.self (vec_capacity c.note.new.list) (vec_capacity c.take_bound.new.statuses)
+    (vec_capacity c.clear.new.self) c.self.invariant.kept r (goes c r) c.note.ensures.places c.take_bound.ensures.places
+    (omega (arith, c.clear.ensures.capacity))
+
 pub invariant_of-self : goal.invariant_of-self
 invariant_of-self c =
-    let s = shelf_of c.self.inside in
-    let held = c.args.rec.now in
-    let t = c.task-task.result.0 in
-    let d = c.task_of.result.now in
-    let noted = (goal.at.invariant_of-self c).After-note in
     let r = known (goal.at.invariant_of-self c).After-task_of in
-    let answers = goes noted r in
-    let m = release_moved s held t c.count_of-from.result (c.count_of.result - c.count_of-from.result) (c.self.inside.unreleased - 1) d c.release.new.self _
-    c.take_bound.new.statuses.items c.note.new.list.items c.set.new.self c.clear.new.self.items (vec_capacity c.note.new.list)
-    (vec_capacity c.take_bound.new.statuses) (vec_capacity c.clear.new.self) c.self.invariant.kept r answers c.note.ensures.places
-    c.take_bound.ensures.places (omega (arith, c.clear.ensures.capacity)) in
+    let m = moved (goal.at.invariant_of-self c).After-note r in
+    let f = kept_figures {shelf = shelf_of c.self.inside} c.self.invariant in
     let same = bound_kept m refl in
     record {
       kept = book_after c.self.invariant.kept m;
-      counted = release_counted s held t _ d c.release.new.self.handed c.set.new.self _ _ c.self.invariant r.here c.release.ensures.handed refl c.set.ensures
-          (gone_more m (rw r.here.stands.0 refl)) same;
-      numbered = release_numbered s held t d c.self.invariant r.here;
-      binding = binding_kept s _ c.self.invariant same;
+      counted = release_counted f (found r.here) r.here.stands.0 c.release.ensures.handed c.set.ensures (gone_more m (rw r.here.stands.0 refl)) same;
+      numbered = numbered_next f phase.Released (found r.here) r.here.stands.0 refl;
+      binding = binding_kept f same;
     }
 
 pub returns : goal.returns
 returns c =
-    let s = shelf_of c.self.inside in
-    let held = c.args.rec.now in
-    let t = c.task-task.result.0 in
-    let d = c.task_of.result.now in
     let noted = (goal.at.returns c).After-note in
     let r = known (goal.at.returns c).After-task_of in
-    let answers = goes noted r in
-    let m = release_moved s held t c.count_of-from.result (c.count_of.result - c.count_of-from.result) (c.self.inside.unreleased - 1) d c.release.new.self _
-    c.take_bound.new.statuses.items c.note.new.list.items c.set.new.self c.clear.new.self.items (vec_capacity c.note.new.list)
-    (vec_capacity c.take_bound.new.statuses) (vec_capacity c.clear.new.self) c.self.invariant.kept r answers c.note.ensures.places
-    c.take_bound.ensures.places (omega (arith, c.clear.ensures.capacity)) in
-    makes_move c.self.invariant.kept m r.here.is_def r.here.who r.here.program
-    (release_left s held c.take_bound.new.rec c.go.new.self t d r (stored noted r) c.go.ensures ∙ sym (left_as s held t d phase.Returned r.here))
-    (release_stands s held c.take_bound.new.rec c.go.new.self t d r (stored noted r) c.go.ensures) c.self.view_is
+    makes_move c.self.invariant.kept (moved noted r) r.here.is_def r.here.who r.here.program
+    (release_left r (stored noted r) c.go.ensures
+    ∙ sym (left_as (shelf_of c.self.inside) c.args.rec.now c.task-task.result.0 c.task_of.result.now phase.Returned r.here))
+    (release_stands r (stored noted r) c.go.ensures) c.self.view_is

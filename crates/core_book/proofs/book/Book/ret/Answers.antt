@@ -14,9 +14,9 @@ use Rattle.core_book.proofs.Moved.{book_after, gone_more, makes_move}
 use Rattle.core_book.proofs.Held.{Held, held_as, own, entry_room, place_within}
 use Rattle.core_book.proofs.BookMoves.{left_as, may_return, returned_task, ret_moved}
 use Rattle.core_book.proofs.BoundAfter.{bound_kept}
-use Rattle.core_book.proofs.BindingMoves.{binding_kept}
-use Rattle.core_book.proofs.CountMoves.{ret_counted}
-use Rattle.core_book.proofs.Numbers.{ret_numbered}
+use Rattle.core_book.proofs.Figured.{kept_figures, found}
+use Rattle.book_counts.proofs.AfterMoves.{binding_kept, ret_counted}
+use Rattle.book_counts.proofs.Numbers.{numbered_next}
 use Rattle.core_book.proofs.book.Book.ret.Goals as goal
 use Rattle.core_book.proofs.book.Book.ret.Goals.{After-task-task}
 
@@ -58,13 +58,13 @@ invariant_of-self c =
     let h = here at in
     let m = ret_moved s held t d c.note.new.list.items c.set.new.self c.clear.new.self.items _ (vec_capacity c.clear.new.self)
     c.self.invariant.kept h c.note.ensures.items c.clear.ensures.items c.note.ensures.places (omega (arith, c.clear.ensures.capacity)) in
+    let f = kept_figures {shelf = s} c.self.invariant in
     let same = bound_kept m refl in
     record {
       kept = book_after c.self.invariant.kept m;
-      counted = ret_counted s held t c.at-open.result d c.set.new.self _ _ c.self.invariant h c.at-open.ensures c.set.ensures
-          (gone_more m (rw h.stands.0 refl)) same;
-      binding = binding_kept s _ c.self.invariant same;
-      numbered = ret_numbered s held t d c.self.invariant h;
+      counted = ret_counted f (found h) h.stands.0 c.at-open.ensures c.set.ensures (gone_more m (rw h.stands.0 refl)) same;
+      binding = binding_kept f same;
+      numbered = numbered_next f phase.Returned (found h) h.stands.0 refl;
     }
 
 pub returns : goal.returns

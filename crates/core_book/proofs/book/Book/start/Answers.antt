@@ -12,9 +12,9 @@ use Rattle.core_book.proofs.Moved.{IsMoved, book_after, gone_more, makes_move}
 use Rattle.core_book.proofs.Held.{Held, held_at, may_move, entry_room, same_program}
 use Rattle.core_book.proofs.BookMoves.{left_as, shelf_after, started_task, start_moved, start_left, start_stands}
 use Rattle.core_book.proofs.BoundAfter.{bound_kept}
-use Rattle.core_book.proofs.BindingMoves.{binding_kept}
-use Rattle.core_book.proofs.CountMoves.{start_counted}
-use Rattle.core_book.proofs.Numbers.{start_numbered}
+use Rattle.core_book.proofs.Figured.{kept_figures, found}
+use Rattle.book_counts.proofs.AfterMoves.{binding_kept, start_counted}
+use Rattle.book_counts.proofs.Numbers.{numbered_stop}
 use Rattle.core_book.proofs.book.Book.start.Goals as goal
 use Rattle.core_book.proofs.book.Book.start.Goals.{After-task_of-def, After-note}
 
@@ -64,13 +64,13 @@ invariant_of-self c =
     let at = (goal.at.invariant_of-self c).After-task_of-def in
     let h = here at in
     let m = moved (goal.at.invariant_of-self c).After-note h (may at) (mine at) in
+    let f = kept_figures {shelf = s} c.self.invariant in
     let same = bound_kept m refl in
     record {
       kept = book_after c.self.invariant.kept m;
-      counted = start_counted s c.args.rec.now t d c.stop.result _ _ c.self.invariant h (mine at) c.stop.ensures
-          (gone_more m (rw h.stands refl)) same;
-      binding = binding_kept s _ c.self.invariant same;
-      numbered = start_numbered s c.args.rec.now t d c.stop.result c.self.invariant h c.stop.ensures;
+      counted = start_counted f (found h) h.stands (mine at) c.stop.ensures (gone_more m (rw h.stands refl)) same;
+      binding = binding_kept f same;
+      numbered = numbered_stop f 0 (found h) h.stands (omega arith) refl c.stop.ensures;
     }
 
 pub returns : goal.returns

@@ -10,12 +10,14 @@ use Rattle.core_book.specs.Kept.{Shelf, state_now}
 use Rattle.core_book.proofs.Insides.{shelf_of}
 use Rattle.core_book.proofs.Moved.{IsMoved, book_after, gone_more, makes_move}
 use Rattle.core_book.proofs.Held.{entry_room, place_within}
-use Rattle.core_book.proofs.CallLemmas.{before_may}
+use Rattle.core_book.proofs.Before.{before_may}
 use Rattle.core_book.proofs.BookMoves.{left_as}
 use Rattle.core_book.proofs.BoundAfter.{bound_kept}
-use Rattle.core_book.proofs.BindingMoves.{binding_kept}
-use Rattle.core_book.proofs.WaitLemmas.{Waits, waits, named_are, wait_room, few_named, shelf_waiting, waiting_in, wait_moved, wait_counted}
-use Rattle.core_book.proofs.WaitLemmas.{wait_numbered, wait_left, wait_stands, wait_pending}
+use Rattle.core_book.proofs.Figured.{kept_figures, found}
+use Rattle.book_counts.proofs.AfterMoves.{binding_kept, wait_counted}
+use Rattle.book_counts.proofs.Numbers.{numbered_next}
+use Rattle.core_book.proofs.WaitLemmas.{Waits, waits, named_are, wait_room, few_named, shelf_waiting, waiting_in, wait_moved, count_awaited}
+use Rattle.core_book.proofs.WaitLemmas.{wait_posts, wait_left, wait_stands, wait_pending}
 use Rattle.core_book.proofs.book.Book.wait.Goals as goal
 use Rattle.core_book.proofs.book.Book.wait.Goals.{After-clear, After-note}
 
@@ -63,7 +65,7 @@ set-requires c =
 pub note-requires : goal.note-requires
 note-requires c =
     entry_room (shelf_of c.self.inside) c.task-task.result.0 c.self.invariant.kept
-    (before_may (shelf_of c.self.inside) c.args.rec.now _ _ _ _ (known (goal.at.note-requires c).After-clear).it)
+    (before_may (known (goal.at.note-requires c).After-clear).it)
 
 -- the insides after the call
 abbrev later : (c : After-note) → Shelf
@@ -87,20 +89,21 @@ moved c w same =
 pub invariant_of-self : goal.invariant_of-self
 invariant_of-self c =
     let s = shelf_of c.self.inside in
-    let held = c.args.rec.now in
     let t = c.task-task.result.0 in
     let d = c.task_of.result.now in
     let at = (goal.at.invariant_of-self c).After-clear in
     let w = known at in
     let same = named at w in
     let m = moved (goal.at.invariant_of-self c).After-note w same in
+    let f = kept_figures {shelf = s} c.self.invariant in
     let as_before = bound_kept m refl in
     record {
       kept = book_after c.self.invariant.kept m;
-      counted = wait_counted s held t c.args.k c.open_among-pending.result d c.handles_at-handles.result.now c.set.new.self _ _ c.self.invariant w same
-          c.open_among-pending.ensures c.set.ensures (gone_more m (rw w.it.at refl)) as_before;
-      binding = binding_kept s _ c.self.invariant as_before;
-      numbered = wait_numbered s held t c.args.k d c.self.invariant w;
+      counted = wait_counted f c.args.k (found w.it.here) w.it.at
+          (count_awaited s t c.args.k _ d c.handles_at-handles.result.now c.self.invariant.kept w.parts same c.open_among-pending.ensures) c.set.ensures
+          (gone_more m (rw w.it.at refl)) as_before;
+      binding = binding_kept f as_before;
+      numbered = numbered_next f (phase.In c.args.k) (found w.it.here) w.it.at (wait_posts d c.args.k w.parts);
     }
 
 pub returns-clause-moves : goal.returns-clause-moves
