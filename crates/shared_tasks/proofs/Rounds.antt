@@ -33,7 +33,7 @@ use Rattle.turn_table.specs.declared.hands.Door.{Door}
 use Rattle.turn_table.specs.declared.hands.Door.TheVariants.{Pause, Events}
 use Rattle.shared_tasks.specs.Values.{ParkedIs, ArrivalIs, LiveIs, joined, other_door}
 use Rattle.shared_tasks.specs.Places.{meeting_of, requests_of, IsHolder, waits_at, places_of, AreAwaited}
-use Rattle.shared_tasks.specs.Keeping.{Issued, OtherIssued, StandsAt, IsLive, IsAble, FitsParked, FitsArrival, bound_of}
+use Rattle.shared_tasks.specs.Keeping.{Issued, OtherIssued, StandsAt, IsLive, IsAble, IsOfMeeting, FitsParked, FitsArrival, bound_of}
 use Rattle.shared_tasks.specs.Pausing.{IsNext}
 
 -- the pass has met the note
@@ -162,15 +162,13 @@ in_phase def at copy task k is stands = (subst (λ (here : Phase). StandsAs def 
 returned_phase : (def : TaskDef) (at : Phase) (copy : List ℤ) (task : Task) → at ≡ phase.Returned → StandsAs def at copy task → task.phase ≡ phase.Returned
 returned_phase def at copy task is stands = (subst (λ (here : Phase). StandsAs def here copy task) is stands).0
 
--- a paused task of which no note is to come may make its next move
-pub all_met : (p : Program) (w : ℕ) (table site : TableId) (rec : Record) (pass : PassIs) (other : HolderIs) (door : Door) (m : ℕ)
-    → FitsParked p w table site (record { rec = rec; pass = pass; other = other; door = door }) m [] → MayMove p (state_seen p pass.seen) rec.task
-all_met p w table site rec pass other Pause m fits =
-    let s = state_seen p pass.seen in
-    let st = fits.task.stands in
-    let at = in_phase st.def rec.phase rec.copy st.task fits.stands.0 fits.stands.1 st.stands in
-    let done = none_awaited p s.exchange rec.task (waits_at p s rec.task Pause) fits.awaited in
-    let here : waits_at p s rec.task Pause ≡ awaited rec.task st.def fits.stands.0 =
+-- a task that waits at one of its meetings for nothing that is incomplete may make its next move
+pub none_left_may : (p : Program) (rec : Record) (s : State) (door : Door) → StandsFor p rec s → StandsAt door rec.phase
+    → AreAwaited p s.exchange rec.task [] (waits_at p s rec.task door) → MayMove p s rec.task
+none_left_may p rec s Pause st stands awaits =
+    let at = in_phase st.def rec.phase rec.copy st.task stands.0 stands.1 st.stands in
+    let done = none_awaited p s.exchange rec.task (waits_at p s rec.task Pause) awaits in
+    let here : waits_at p s rec.task Pause ≡ awaited rec.task st.def stands.0 =
     ap (λ (o : Option TaskDef). awaited_at rec.task o (phase_at s.tasks rec.task)) st.is_def
     ∙ ap (λ (o : Option Task). awaited_at rec.task (Some st.def) (option_map (λ (task : Task). task.phase) o)) st.is_task
     ∙ ap (λ (f : Phase). awaited_at rec.task (Some st.def) (Some f)) at in
@@ -182,11 +180,9 @@ all_met p w table site rec pass other Pause m fits =
       enabled =
           subst (MayMoveAt p s.tasks s.exchange rec.task st.def st.task) (sym at) (subst (AreComplete p s.exchange) here done);
     }
-all_met p w table site rec pass other Events m fits =
-    let s = state_seen p pass.seen in
-    let st = fits.task.stands in
-    let at = returned_phase st.def rec.phase rec.copy st.task fits.stands st.stands in
-    let done = none_awaited p s.exchange rec.task (waits_at p s rec.task Events) fits.awaited in
+none_left_may p rec s Events st stands awaits =
+    let at = returned_phase st.def rec.phase rec.copy st.task stands st.stands in
+    let done = none_awaited p s.exchange rec.task (waits_at p s rec.task Events) awaits in
     let here : waits_at p s rec.task Events ≡ st.task.bound =
     ap (λ (o : Option Task). or_none (option_map (λ (task : Task). task.bound) o)) st.is_task in
     record {
@@ -197,6 +193,20 @@ all_met p w table site rec pass other Events m fits =
       enabled =
           subst (MayMoveAt p s.tasks s.exchange rec.task st.def st.task) (sym at) (subst (AreComplete p s.exchange) here done);
     }
+
+-- a paused task of which no note is to come may make its next move
+pub all_met : (p : Program) (w : ℕ) (table site : TableId) (rec : Record) (pass : PassIs) (other : HolderIs) (door : Door) (m : ℕ)
+    → FitsParked p w table site (record { rec = rec; pass = pass; other = other; door = door }) m [] → MayMove p (state_seen p pass.seen) rec.task
+all_met p w table site rec pass other door m fits = none_left_may p rec (state_seen p pass.seen) door fits.task.stands fits.stands fits.awaited
+
+-- a task that was taken up at its meeting stands there
+pub of_meeting : (p : Program) (w : ℕ) (table site : TableId) (parked : ParkedIs) (meeting : ℕ) (places : List ℕ) (live : LiveIs)
+    → FitsParked p w table site parked meeting places → live.rec ≡ parked.rec → IsOfMeeting meeting live
+of_meeting p w table site parked meeting places live fits same = record {
+  door = parked.door;
+  is = fits.meeting_is ∙ ap (λ (rec : Record). meeting_of parked.door rec.task) (sym same);
+  stands = subst (λ (rec : Record). StandsAt parked.door rec.phase) (sym same) fits.stands;
+}
 
 -- it is then a started task again, with the holder of the next round
 pub live_again : (p : Program) (w : ℕ) (table site : TableId) (rec : Record) (pass : PassIs) (other : HolderIs) (door : Door) (holder : HolderIs)

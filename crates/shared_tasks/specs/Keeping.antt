@@ -54,6 +54,12 @@ abbrev pub StandsAt : Door → Phase → Type 0
 StandsAt Pause at = (k : ℕ) × (at ≡ phase.In k)
 StandsAt Events at = at ≡ phase.Returned
 
+-- the meeting is one of this task's two, and the task stands there
+pub record IsOfMeeting (meeting : ℕ) (live : LiveIs) : Type 0 where
+  pub door : Door
+  pub is : meeting ≡ meeting_of door live.rec.task
+  pub stands : StandsAt door live.rec.phase
+
 -- the task may park at this meeting of it: of each incomplete request for which it waits there, its holder has issued the place
 pub record MayPark (program : Program) (door : Door) (live : LiveIs) : Type 0 where
   pub stands : StandsAt door live.rec.phase

@@ -3,7 +3,7 @@
 ghost use Rattle.std.specs.Prelude.{◌≡◌, [], ◌∷◌};
 ghost use Rattle.meet_hall.specs.Answers.{ParkWaits, ArriveWaits};
 ghost use Rattle.shared_tasks.specs.Values.{held_at};
-ghost use Rattle.shared_tasks.specs.Keeping.{MayPark, FitsParked, IsAble};
+ghost use Rattle.shared_tasks.specs.Keeping.{MayPark, FitsParked, IsAble, IsOfMeeting};
 ghost use Rattle.shared_tasks.specs.Pausing.{IsNext, SawMore, IfWaiting, IfBack};
 
 use crate::arrival::Arrival;
@@ -81,7 +81,7 @@ pub fn park<K: Run, H: Site>(
     }
 }
 
-/// The completion comes to its meeting. Where it is the last to come, the task that is parked there goes on.
+/// The completion comes to its meeting. Where it is the last to come, the task that is parked there goes on: the meeting is one at which it stands.
 pub fn arrive<K: Run, H: Site>(
     table: &PassTable,
     hall: &Hall<Parked<K>, Arrival<K>>,
@@ -91,6 +91,7 @@ pub fn arrive<K: Run, H: Site>(
     requires hall { hall.now ≡ H.hall }
     ensures waiting { IfWaiting result (ArriveWaits notice.ticket) }
     ensures back { IfBack result (λ back. (back.rec.task ≡ notice.req.task.0) × IsAble K.program back) }
+    ensures meeting { IfBack result (IsOfMeeting notice.ticket.meeting) }
 {
     let (req, ticket, note) = notice.into_parts();
     let arrival = Arrival {
