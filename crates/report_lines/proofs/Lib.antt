@@ -1,0 +1,3 @@
+pub mod Handing
+pub mod Putting
+pub mod Texts
