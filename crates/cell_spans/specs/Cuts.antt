@@ -16,6 +16,7 @@ abbrev pub bounds_of : ℕ → List Access → List ℕ
 bounds_of rank [] = []
 bounds_of rank (access ∷ accesses) = spot rank access.span.array access.span.from ∷ spot rank access.span.array access.span.to ∷ bounds_of rank accesses
 
+-- where the accesses of all tasks begin and end
 abbrev pub all_bounds : List TaskDef → List ℕ
 all_bounds [] = []
 all_bounds (task ∷ tasks) = bounds_of task.rank task.accesses.items ++ all_bounds tasks
@@ -29,8 +30,10 @@ AreTasksSmall (task ∷ tasks) = (task.rank < 65536) × AreSmall task.accesses.i
 abbrev pub cut_cells : List ℕ → ℕ → Span → ℕ
 cut_cells cuts rank span = count_by (λ cell. list_any (nat_eq (spot rank span.array cell)) cuts) (cells_of span)
 
+-- how many cells of the accesses begin a segment, counted in each access
 abbrev pub cut_by_accesses : List ℕ → ℕ → List Access → ℕ
 cut_by_accesses cuts rank accesses = sum_by (λ (access : Access). cut_cells cuts rank access.span) accesses
 
+-- how many cells of the accesses of all tasks do, counted in each access
 abbrev pub cut_by_tasks : List ℕ → List TaskDef → ℕ
 cut_by_tasks cuts tasks = sum_by (λ (task : TaskDef). cut_by_accesses cuts task.rank task.accesses.items) tasks

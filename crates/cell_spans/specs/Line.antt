@@ -7,9 +7,11 @@ use Rattle.cell_spans.specs.declared.line.Interval.{Interval}
 abbrev pub place : ℕ → ℕ → ℕ
 place array cell = array * 4294967296 + cell
 
+-- where the cells of the span begin
 abbrev pub begin_of : Span → ℕ
 begin_of span = place span.array span.from
 
+-- the place behind the last cell of the span
 abbrev pub end_of : Span → ℕ
 end_of span = place span.array span.to
 
@@ -33,5 +35,6 @@ lies_in spot span = nat_le (begin_of span) spot && nat_lt spot (end_of span)
 abbrev pub is_in : ℕ → Interval → Bool
 is_in spot interval = nat_le interval.begin spot && nat_lt spot interval.end
 
+-- the place belongs to the interval, as a fact
 abbrev pub IsIn : ℕ → Interval → Type 0
 IsIn spot interval = (interval.begin ≤ spot) × (spot < interval.end)

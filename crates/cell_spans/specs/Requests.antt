@@ -34,9 +34,11 @@ abbrev pub spans_of : (Request → Bool) → List Request → List Span
 spans_of test [] = []
 spans_of test (request ∷ requests) = if request.used && test request then request.span ∷ spans_of test requests else spans_of test requests
 
+-- the request is of a receive
 abbrev pub is_receiving : Request → Bool
 is_receiving request = request.receives
 
+-- the request is of a send
 abbrev pub is_sending : Request → Bool
 is_sending request = not request.receives
 
@@ -44,15 +46,18 @@ is_sending request = not request.receives
 abbrev pub noted : Bool → Request → Request
 noted later request = record request { used = request.used && later; named = true }
 
+-- the nth request is named, and no other
 abbrev pub noted_at : Bool → ℕ → List Request → List Request
 noted_at later n [] = []
 noted_at later zero (request ∷ requests) = noted later request ∷ requests
 noted_at later (suc n) (request ∷ requests) = request ∷ noted_at later n requests
 
+-- the request of a handle is named; a null handle names none
 abbrev pub noted_by : Bool → Handle → List Request → List Request
 noted_by later handle.Null requests = requests
 noted_by later (handle.Nth n) requests = noted_at later n requests
 
+-- the requests of all these handles are named
 abbrev pub noted_by_all : Bool → List Handle → List Request → List Request
 noted_by_all later [] requests = requests
 noted_by_all later (first ∷ handles) requests = noted_by_all later handles (noted_by later first requests)

@@ -18,10 +18,11 @@ is_inner term.Size = false
 is_inner (term.Neg e) = true
 is_inner (term.Two op left right) = true
 
--- the value under a minus sign, and the value of two sides with an operator between them
+-- the value under a minus sign
 abbrev pub under_minus : Result ℤ FaultKind → Result ℤ FaultKind
 under_minus inner = inner >>= λ x. fitting (neg_ℤ x)
 
+-- the value of two sides with an operator between them
 abbrev pub joined : BinOp → Result ℤ FaultKind → Result ℤ FaultKind → Result ℤ FaultKind
 joined op left right = left >>= λ x. right >>= λ y. computed op x y
 
@@ -29,11 +30,12 @@ joined op left right = left >>= λ x. right >>= λ y. computed op x y
 abbrev pub put_on : Result ℤ FaultKind → List ℤ → Result (List ℤ) FaultKind
 put_on x values = x >>= λ n. Ok (n ∷ values)
 
--- the newest value under a minus sign, and the operator between the two newest values. Where they are missing, anything
+-- the newest value under a minus sign. Where it is missing, anything
 abbrev pub turned : List ℤ → Result (List ℤ) FaultKind
 turned [] = Ok []
 turned (x ∷ values) = put_on (fitting (neg_ℤ x)) values
 
+-- the operator between the two newest values. Where they are missing, anything
 abbrev pub applied : BinOp → List ℤ → Result (List ℤ) FaultKind
 applied op [] = Ok []
 applied op (y ∷ []) = Ok []
@@ -58,7 +60,7 @@ Fits (todo.Value e ∷ more) n = Fits more (n + 1)
 Fits (todo.Negate ∷ more) n = (1 ≤ n) × Fits more n
 Fits (todo.Apply op ∷ more) n = (2 ≤ n) × Fits more (n - 1)
 
--- how much is left to do
+-- how much a tree leaves to do: one for each leaf, two for each other node
 abbrev pub size_of : Term → ℕ
 size_of (term.Number n) = 1
 size_of (term.Var name) = 1
@@ -67,6 +69,7 @@ size_of term.Size = 1
 size_of (term.Neg e) = size_of e + 2
 size_of (term.Two op left right) = size_of left + size_of right + 2
 
+-- how much is left to do: each tree, and one for each operator
 abbrev pub left_of : List Todo → ℕ
 left_of [] = 0
 left_of (todo.Value e ∷ more) = size_of e.now + left_of more

@@ -14,6 +14,7 @@ use Rattle.task_names.specs.declared.meaning.Meaning.TheVariants as meaning
 abbrev pub Names : Type 0
 Names = List (List ℕ × Meaning)
 
+-- what a name means, where it means something
 abbrev pub meaning_of : Names → List ℕ → Option Meaning
 meaning_of names name = lookup (bytes_eq name) names
 
@@ -21,20 +22,22 @@ meaning_of names name = lookup (bytes_eq name) names
 abbrev pub with_meaning : Names → List ℕ → Meaning → Names
 with_meaning names name meant = insert_entry bytes_eq names name meant
 
--- what a name is where a variable, an array, a communicator or a handle is wanted
+-- the value of a variable, where one is wanted
 abbrev pub as_variable : Option Meaning → Result ℤ FaultKind
 as_variable (Some (meaning.Variable value)) = Ok value
 as_variable _ = Err fault.UnknownName
 
+-- the number of an array, where one is wanted
 abbrev pub as_array : Option Meaning → Result ℕ FaultKind
 as_array (Some (meaning.Array number)) = Ok number
 as_array _ = Err fault.UnknownName
 
+-- the number of a communicator, where one is wanted
 abbrev pub as_communicator : Option Meaning → Result ℕ FaultKind
 as_communicator (Some (meaning.Communicator number)) = Ok number
 as_communicator _ = Err fault.UnknownName
 
--- a handle that a wait has named is null (MPI 4.0, 3.7.3)
+-- the handle, where one is wanted; one that a wait has named is null (MPI 4.0, 3.7.3)
 abbrev pub as_handle : Option Meaning → Result Handle FaultKind
 as_handle (Some (meaning.Posted n)) = Ok (handle.Nth n)
 as_handle (Some meaning.Idle) = Ok handle.Null

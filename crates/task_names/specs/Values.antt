@@ -19,23 +19,28 @@ abbrev pub fits : ℤ → Bool
 fits (pos n) = nat_lt n (2 ^ 63)
 fits (negsuc n) = nat_lt n (2 ^ 63)
 
+-- a number that fits, and else `Overflow`
 unfoldable pub fitting : ℤ → Result ℤ FaultKind
 fitting number = if fits number then Ok number else Err fault.Overflow
 
+-- the number is 0
 abbrev pub is_zero : ℤ → Bool
 is_zero (pos n) = nat_le n 0
 is_zero (negsuc n) = nat_lt n 0
 
+-- 1 for what holds, and 0 for what does not
 abbrev pub truth : Bool → ℤ
 truth holds = if holds then pos 1 else pos 0
 
--- division truncates toward zero, and the rest has the sign of the dividend
+-- division truncates toward zero
 abbrev pub quotient : ℤ → ℤ → Result ℤ FaultKind
 quotient left right = if is_zero right then Err fault.DivisionByZero else fitting (int_div left right)
 
+-- the rest of a division, which has the sign of the dividend
 abbrev pub rest : ℤ → ℤ → Result ℤ FaultKind
 rest left right = if is_zero right then Err fault.DivisionByZero else fitting (int_rem left right)
 
+-- the value of an operator between two numbers, or its fault
 unfoldable pub computed : BinOp → ℤ → ℤ → Result ℤ FaultKind
 computed binary.Add left right = fitting (left +ℤ right)
 computed binary.Sub left right = fitting (left -ℤ right)

@@ -20,6 +20,7 @@ spot (block.Otherwise ∷ around) = within (spot around)
 spot (block.Head ∷ around) = Body
 spot (block.Body ∷ around) = Body
 
+-- the innermost block is the head of a task, before its `do`
 abbrev pub is_head : List OpenBlock → Bool
 is_head [] = false
 is_head (block.Loop ∷ around) = false

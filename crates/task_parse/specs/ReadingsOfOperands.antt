@@ -25,15 +25,17 @@ named_handle x = do
   rest ← comma_at name.1
   Ok (Some name.0, rest)
 
+-- the handle and its comma, where the call doesn't block
 abbrev pub handle_at : How → Left → Result (Option (List ℕ) × Left) FaultKind
 handle_at call x = if blocks call then Ok (None, x) else named_handle x
 
--- `any` only in a receive
+-- an expression, `null`, and in a receive `any`
 unfoldable pub peer_at : How → Left → Result (PeerText × Left) FaultKind
 peer_at call (token.Key key.Null ∷ tokens, depth) = Ok (peer.Null, (tokens, depth))
 peer_at call (token.Key key.Any ∷ tokens, depth) = if is_receive call then Ok (peer.Any, (tokens, depth)) else Err fault.Shape
 peer_at call x = value_at x >>= λ value. Ok (peer.At value.0, value.1)
 
+-- an expression, and in a receive `any`
 unfoldable pub tag_at : How → Left → Result (TagText × Left) FaultKind
 tag_at call (token.Key key.Any ∷ tokens, depth) = if is_receive call then Ok (tag.Any, (tokens, depth)) else Err fault.Shape
 tag_at call x = value_at x >>= λ value. Ok (tag.At value.0, value.1)
@@ -48,6 +50,7 @@ unfoldable pub status_at : Left → Result (Option SpanText × Left) FaultKind
 status_at (token.Key key.Status ∷ tokens, depth) = span_at (tokens, depth) >>= λ span. Ok (Some span.0, span.1)
 status_at x = Ok (None, x)
 
+-- [ status SPAN ], where the call may have one
 abbrev pub own_status_at : How → Left → Result (Option SpanText × Left) FaultKind
 own_status_at call x = if has_status call then status_at x else Ok (None, x)
 
@@ -61,15 +64,17 @@ unfoldable pub names_behind : List (List ℕ) → List Token → List (List ℕ)
 names_behind names (token.Sign sign.Comma ∷ token.Name name ∷ tokens) = names_behind (names ++ name ∷ []) tokens
 names_behind names tokens = (names, tokens)
 
+-- NAME { , NAME }
 unfoldable pub names_at : Left → Result (List (List ℕ) × Left) FaultKind
 names_at x = do
   first ← name_at x
   let names = names_behind (first.0 ∷ []) first.1.0 in Ok (names.0, (names.1, first.1.1))
 
--- a span, or a value, and the comma before it
+-- a span, and the comma before it
 unfoldable pub next_span : Left → Result (SpanText × Left) FaultKind
 next_span x = comma_at x >>= span_at
 
+-- a value, and the comma before it
 unfoldable pub next_value : Left → Result (Term × Left) FaultKind
 next_value x = comma_at x >>= value_at
 

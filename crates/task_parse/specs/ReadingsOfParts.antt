@@ -19,26 +19,32 @@ Left = List Token × ℕ
 abbrev pub left : Rest → Left
 left rest = (rest.tokens.now, rest.depth)
 
+-- NAME
 unfoldable pub name_at : Left → Result (List ℕ × Left) FaultKind
 name_at (token.Name name ∷ tokens, depth) = Ok (name, (tokens, depth))
 name_at _ = Err fault.Shape
 
+-- the sign `,`
 unfoldable pub comma_at : Left → Result Left FaultKind
 comma_at (token.Sign sign.Comma ∷ tokens, depth) = Ok (tokens, depth)
 comma_at _ = Err fault.Shape
 
+-- the sign `..`
 unfoldable pub dots_at : Left → Result Left FaultKind
 dots_at (token.Sign sign.Dots ∷ tokens, depth) = Ok (tokens, depth)
 dots_at _ = Err fault.Shape
 
+-- the sign `=`
 unfoldable pub set_at : Left → Result Left FaultKind
 set_at (token.Sign sign.Set ∷ tokens, depth) = Ok (tokens, depth)
 set_at _ = Err fault.Shape
 
+-- the sign `[`
 unfoldable pub open_at : Left → Result Left FaultKind
 open_at (token.Sign sign.OpenSquare ∷ tokens, depth) = Ok (tokens, depth)
 open_at _ = Err fault.Shape
 
+-- the sign `]`
 unfoldable pub close_at : Left → Result Left FaultKind
 close_at (token.Sign sign.CloseSquare ∷ tokens, depth) = Ok (tokens, depth)
 close_at _ = Err fault.Shape

@@ -10,6 +10,7 @@ signs_of_two =
     (codes "..", sign.Dots) ∷ (codes "==", sign.Same) ∷ (codes "!=", sign.Differs) ∷
     (codes "<=", sign.AtMost) ∷ (codes ">=", sign.AtLeast) ∷ []
 
+-- the sign of two bytes that these are
 unfoldable pub sign_of_two : List ℕ → Option Sign
 sign_of_two bytes = lookup signs_of_two bytes
 
@@ -21,5 +22,6 @@ signs_of_one =
     (codes "[", sign.OpenSquare) ∷ (codes "]", sign.CloseSquare) ∷ (codes ",", sign.Comma) ∷
     (codes "=", sign.Set) ∷ (codes "<", sign.Below) ∷ (codes ">", sign.Above) ∷ []
 
+-- the sign of one byte that this is
 unfoldable pub sign_of_one : List ℕ → Option Sign
 sign_of_one bytes = lookup signs_of_one bytes

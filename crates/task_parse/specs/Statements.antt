@@ -70,12 +70,13 @@ pub data AreValues : ℕ → List Token → List Term → Type 0 where
   more : {c d : ℕ} {xs ys : List Token} {e : Term} {es : List Term} → Is 0 c xs e → AreValues d ys es
       → AreValues (max c d) (token.Sign sign.Comma ∷ (xs ++ ys)) (e ∷ es)
 
--- the word of an access, of a call, of a wait for one request and for several
+-- the word of an access line
 abbrev pub access_key : Mode → Key
 access_key mode.In = key.In
 access_key mode.Out = key.Out
 access_key mode.Inout = key.Inout
 
+-- the word of a send or a receive
 abbrev pub call_key : How → Key
 call_key how.Send = key.Send
 call_key how.Ssend = key.Ssend
@@ -84,10 +85,12 @@ call_key how.Isend = key.Isend
 call_key how.Issend = key.Issend
 call_key how.Irecv = key.Irecv
 
+-- the word of a wait for one request, which waits in the body or only binds
 abbrev pub wait_key : Bool → Key
 wait_key false = key.Wait
 wait_key true = key.Iwait
 
+-- the word of a wait for several requests, which waits in the body or only binds
 abbrev pub waitall_key : Bool → Key
 waitall_key false = key.Waitall
 waitall_key true = key.Iwaitall

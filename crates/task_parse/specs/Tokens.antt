@@ -52,16 +52,19 @@ longest_sign (Some sign) one = Ok (token.Sign sign, 2)
 longest_sign None (Some sign) = Ok (token.Sign sign, 1)
 longest_sign None None = Err fault.Byte
 
--- the first token of the text, and the number of its bytes
+-- the number at the front of the text, and the number of its bytes
 abbrev pub number_at : List ℕ → Result (Token × ℕ) FaultKind
 number_at text = with_len (take_while is_ascii_digit text) (number_token (take_while is_ascii_digit text))
 
+-- the key or name at the front of the text, and the number of its bytes
 abbrev pub word_at : List ℕ → Result (Token × ℕ) FaultKind
 word_at text = with_len (take_while is_in_name text) (word_token (take_while is_in_name text))
 
+-- the sign at the front of the text, and the number of its bytes
 abbrev pub sign_at : List ℕ → Result (Token × ℕ) FaultKind
 sign_at text = longest_sign (sign_of_two (take 2 text)) (sign_of_one (take 1 text))
 
+-- the first token of the text, and the number of its bytes
 unfoldable pub first_token : List ℕ → Result (Token × ℕ) FaultKind
 first_token [] = Err fault.Byte
 first_token (byte ∷ bytes) =

@@ -54,14 +54,16 @@ opens (what.If test) = true
 opens what.Task = true
 opens other = false
 
--- how many of the statements open a block, and how many end one
+-- how many of the statements open a block
 abbrev pub opening : List Stmt → ℕ
 opening stmts = count_by (λ s. opens s.what) stmts
 
+-- the statement ends a block
 abbrev pub ends : What → Bool
 ends what.End = true
 ends other = false
 
+-- how many of the statements end a block
 abbrev pub ending : List Stmt → ℕ
 ending stmts = count_by (λ s. ends s.what) stmts
 
@@ -86,9 +88,11 @@ pub data HaveFault : List (List ℕ) → ℕ → FaultKind → Type 0 where
   at_end : {lines : List (List ℕ)} {stmts : List Stmt} → Say 1 lines stmts → CanGoOn stmts → ¬ AreNested stmts
       → HaveFault lines (length lines + 1) fault.Open
 
+-- the text has this tree
 abbrev pub IsTree : List ℕ → List Stmt → Type 0
 IsTree text stmts = HaveTree (lines_of text) stmts
 
+-- the text's first fault is of this kind, at the line of this number
 abbrev pub IsFirstFault : List ℕ → ℕ → FaultKind → Type 0
 IsFirstFault text number kind = HaveFault (lines_of text) number kind
 

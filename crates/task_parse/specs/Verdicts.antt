@@ -30,9 +30,11 @@ abbrev pub stood : Option (What × ℕ) → List OpenBlock → Result (Option Wh
 stood None blocks = Ok (None, blocks)
 stood (Some w) blocks = next w.1 w.0 blocks >>= λ behind. Ok (Some w.0, behind)
 
+-- what the bytes of a line say, and the blocks that are open behind it
 abbrev pub line_at : List ℕ → List OpenBlock → Result (Option What × List OpenBlock) FaultKind
 line_at line blocks = what_of line >>= λ what. stood what blocks
 
+-- the statement of the line of this number, where it says one
 abbrev pub stmts_of : ℕ → Option What → List Stmt
 stmts_of number None = []
 stmts_of number (Some said) = stmt number said ∷ []
@@ -45,6 +47,7 @@ with_line stmts blocks number line = line_at line blocks >>= λ x. Ok (stmts ++ 
 abbrev pub Verdict : Type 0
 Verdict = Result (List Stmt) (ℕ × FaultKind)
 
+-- the verdict with these statements before it
 abbrev pub onto : List Stmt → Verdict → Verdict
 onto front (Ok stmts) = Ok (front ++ stmts)
 onto front (Err f) = Err f

@@ -17,6 +17,7 @@ outer_words =
     (codes "let", key.Let) ∷ (codes "for", key.For) ∷ (codes "if", key.If) ∷ (codes "else", key.Else) ∷
     (codes "end", key.End) ∷ []
 
+-- the word of the main text that these bytes are
 unfoldable pub outer_word : List ℕ → Option Key
 outer_word word = lookup outer_words word
 
@@ -27,6 +28,7 @@ task_words =
     (codes "inout", key.Inout) ∷ (codes "taskwait", key.Taskwait) ∷ (codes "release", key.Release) ∷
     (codes "barrier", key.Barrier) ∷ (codes "bcast", key.Bcast) ∷ (codes "allreduce", key.Allreduce) ∷ []
 
+-- the word of a task or of its accesses that these bytes are
 unfoldable pub task_word : List ℕ → Option Key
 task_word word = lookup task_words word
 
@@ -38,6 +40,7 @@ kernel_words =
     (codes "jacobi2", key.Jacobi2) ∷ (codes "sum", key.Sum) ∷ (codes "least", key.Least) ∷
     (codes "greatest", key.Greatest) ∷ []
 
+-- the kernel that these bytes are
 unfoldable pub kernel_word : List ℕ → Option Key
 kernel_word word = lookup kernel_words word
 
@@ -49,6 +52,7 @@ message_words =
     (codes "wait", key.Wait) ∷ (codes "waitall", key.Waitall) ∷ (codes "iwait", key.Iwait) ∷
     (codes "iwaitall", key.Iwaitall) ∷ []
 
+-- the word of a message or a wait that these bytes are
 unfoldable pub message_word : List ℕ → Option Key
 message_word word = lookup message_words word
 
@@ -58,6 +62,7 @@ operand_words =
     (codes "on", key.On) ∷ (codes "status", key.Status) ∷ (codes "any", key.Any) ∷ (codes "null", key.Null) ∷
     (codes "rank", key.Rank) ∷ (codes "size", key.Size) ∷ []
 
+-- the word inside a statement that these bytes are
 unfoldable pub operand_word : List ℕ → Option Key
 operand_word word = lookup operand_words word
 

@@ -5,18 +5,21 @@ ghost use Rattle.std.specs.List.{prefix_len, take_while};
 ghost use Rattle.std.specs.Char.{is_ascii_digit};
 ghost use Rattle.task_parse.specs.Tokens.{is_blank, begins_name, is_in_name, after_blanks, is_over};
 
+// Whether the byte separates tokens and means nothing else.
 fn is_blank(byte: u8) -> bool
     ensures { result ≡ is_blank byte }
 {
     byte == b' ' || byte == b'\t' || byte == b'\r'
 }
 
+// Whether a name may begin with the byte.
 pub fn begins_name(byte: u8) -> bool
     ensures { result ≡ begins_name byte }
 {
     byte.is_ascii_alphabetic() || byte == b'_'
 }
 
+// Whether the byte may stand in a name.
 fn is_in_name(byte: u8) -> bool
     ensures { result ≡ is_in_name byte }
 {
@@ -47,12 +50,14 @@ fn blanks_len(text: &[u8]) -> usize
     text.iter().take_while(|b| is_blank(**b)).count()
 }
 
+// The digits at the front.
 pub fn digits(text: &[u8]) -> &[u8]
     ensures { result.now ≡ take_while is_ascii_digit text.now }
 {
     &text[..digits_len(text)]
 }
 
+// What may stand in a name, at the front.
 pub fn word(text: &[u8]) -> &[u8]
     ensures { result.now ≡ take_while is_in_name text.now }
 {
@@ -67,6 +72,7 @@ pub fn behind<T>(items: &[T], len: usize) -> &[T]
     &items[len..]
 }
 
+// What is left behind the blanks at the front.
 #[tactic(auto, using(crate::proofs::Cuts::blanks_end, crate::proofs::Cuts::blanks_shorten))]
 pub fn after_blanks(text: &[u8]) -> &[u8]
     ensures rest { result.now ≡ after_blanks text.now }

@@ -40,9 +40,11 @@ pub data Block : Type 0 where
   Choice : (line : ℕ) (test : Term) (body : Block) (middle : ℕ) (other : Block) (last : ℕ) (rest : Block) → Block
   Work : (line : ℕ) (accesses : List AccessLine) (middle : ℕ) (body : Block) (last : ℕ) (rest : Block) → Block
 
+-- a statement, with the number of its line
 abbrev pub stmt : ℕ → What → Stmt
 stmt line said = record { line = line; what = said }
 
+-- the statement of an access line
 abbrev pub access_stmt : AccessLine → Stmt
 access_stmt access = stmt access.line (what.Touch access.mode access.span)
 
@@ -69,16 +71,19 @@ within Top = Main
 within Main = Main
 within Body = Body
 
+-- outside every block
 abbrev pub is_top : Place → Bool
 is_top Top = true
 is_top Main = false
 is_top Body = false
 
+-- in a task's body
 abbrev pub is_body : Place → Bool
 is_body Top = false
 is_body Main = false
 is_body Body = true
 
+-- outside every task
 abbrev pub is_main : Place → Bool
 is_main Top = true
 is_main Main = true

@@ -37,11 +37,12 @@ use Rattle.task_unroll.specs.Checks.{Check, check, passed, access_checks, op_che
 abbrev pub listed : {T : Type 0} → List T → Listing T
 listed items = record { items = items; room = 0 }
 
--- array NAME , expr
+-- an array has no negative length
 abbrev pub sized : ℤ → Result ℕ FaultKind
 sized (pos len) = Ok len
 sized (negsuc len) = Err fault.BadSize
 
+-- array NAME , expr
 unfoldable pub array_made : ℕ → List ℕ → Term → State → Result State ExpandRefusal
 array_made line name len s = do
   t ← stepped s
@@ -125,6 +126,7 @@ kernel_call kind (dst ∷ sources) numbers =
     then Ok (op.Compute kind dst (slice_get sources 0) (slice_get sources 1) (slice_index_or numbers 0 (pos 0)) (slice_index_or numbers 1 (pos 0)))
     else Err fault.Shape
 
+-- a kernel: its spans and its numbers are worked out, and it becomes an operation
 unfoldable pub kernel_done : ℕ → Kernel → List SpanText → List Term → State → Result State ExpandRefusal
 kernel_done line kind texts terms s = do
   t ← operated 0 0 s
@@ -133,29 +135,34 @@ kernel_done line kind texts terms s = do
   operation ← at line (kernel_call kind spans numbers)
   op_done line no_handle operation t
 
--- whether a call has a handle, whom it may name, and whether it may have a status, as in each text that was read
+-- the peer is any (MPI 4.0, 3.2.4)
 abbrev pub is_any_peer : PeerText → Bool
 is_any_peer (peer_text.At e) = false
 is_any_peer peer_text.Any = true
 is_any_peer peer_text.Null = false
 
+-- the tag is any (MPI 4.0, 3.2.4)
 abbrev pub is_any_tag : TagText → Bool
 is_any_tag (tag_text.At e) = false
 is_any_tag tag_text.Any = true
 
+-- the call is the receive that blocks (MPI 4.0, 3.2.4)
 abbrev pub is_recv : How → Bool
 is_recv call = is_receive call && blocks call
 
+-- whether a call has a handle, whom it may name, and whether it may have a status, as in each text that was read
 abbrev pub call_checks : How → Option (List ℕ) → PeerText → TagText → Option SpanText → List Check
 call_checks call handle to number status =
     check fault.Shape (if blocks call then is_some handle else is_none handle)
     ∷ check fault.Shape (if is_receive call then false else (is_any_peer to || is_any_tag number))
     ∷ check fault.Shape (if is_recv call then false else is_some status) ∷ []
 
+-- the name of the handle has no meaning yet, or is that of a handle
 abbrev pub handle_free : State → Option (List ℕ) → Result ⊤ FaultKind
 handle_free s None = Ok tt
 handle_free s (Some name) = may_be_posted (meaning_of s.names name)
 
+-- the handle is not that of a request which no wait has named yet
 abbrev pub handle_check : State → Option (List ℕ) → Check
 handle_check s None = no_handle
 handle_check s (Some name) = check fault.RequestBusy (is_busy (meaning_of s.names name))
@@ -195,11 +202,12 @@ wait_done line later handles status s = do
   u ← op_done line (check fault.RequestTwice (stands_twice handles)) (op.Await later (listed requests) cells) t
   Ok (record u { names = with_idle handles u.names })
 
--- end of a task: a request that no wait named is the fault of its posting. Names mean again what they meant before the task
+-- a request that no wait named is the fault of its posting
 abbrev pub none_left : List ℕ → List ℕ → Result ⊤ ExpandRefusal
 none_left lines [] = Ok tt
 none_left lines (n ∷ more) = at (slice_index_or lines n 0) (Err fault.RequestLeft)
 
+-- end of a task: it joins the others, and names mean again what they meant before it
 unfoldable pub task_ended : ℕ → State → Result State ExpandRefusal
 task_ended line s = do
   named ← none_left s.lines (left_after 0 s.body)

@@ -21,6 +21,7 @@ pub record Check : Type 0 where
   pub kind : FaultKind
   pub finds : Bool
 
+-- this kind of fault, where this is found
 abbrev pub check : FaultKind → Bool → Check
 check kind finds = record { kind = kind; finds = finds }
 
@@ -57,6 +58,7 @@ abbrev pub is_no_shift : ℤ → Bool
 is_no_shift (pos places) = nat_lt 63 places
 is_no_shift (negsuc places) = true
 
+-- the kernel is a shift, by a number of places that it cannot have
 abbrev pub has_bad_shift : Kernel → ℤ → Bool
 has_bad_shift kernel.Fill value = false
 has_bad_shift kernel.Ramp value = false
@@ -75,6 +77,7 @@ abbrev pub is_nothing : Option Span → Bool
 is_nothing None = false
 is_nothing (Some source) = nat_eq (span_len source) 0
 
+-- the kernel is the least or the greatest of no cells
 abbrev pub has_no_source : Kernel → Option Span → Bool
 has_no_source kernel.Fill left = false
 has_no_source kernel.Ramp left = false

@@ -11,6 +11,7 @@ pub data Mark : Type 0 where
   Closes : Mark
   Stays : Mark
 
+-- what each statement is to the blocks round it
 abbrev pub mark : What → Mark
 mark (what.Array name len) = Stays
 mark (what.Show name) = Stays
@@ -37,6 +38,7 @@ deeper Closes zero = None
 deeper Closes (suc depth) = Some depth
 deeper Stays depth = Some depth
 
+-- nothing more where the block is closed or parted, and else this statement and what comes behind it
 abbrev pub or_more : Option ℕ → (ℕ → ℕ) → ℕ
 or_more None more = 0
 or_more (Some depth) more = suc (more depth)
@@ -73,5 +75,6 @@ pub record AreEndsUpTo (stmts : List Stmt) (ends : List ℕ) (n : ℕ) : Type 0 
   pub long : length ends ≡ n
   pub each : (place : ℕ) (s : Stmt) → place < n → slice_get stmts place ≡ Some s → may_jump s.what ≡ true → slice_index ends place ≡ close_of stmts (place + 1)
 
+-- the whole table of the statements
 abbrev pub AreEnds : List Stmt → List ℕ → Type 0
 AreEnds stmts ends = AreEndsUpTo stmts ends (length stmts)

@@ -36,10 +36,12 @@ span_of s text = do
   to ← value (scene s) text.to
   bounded array (slice_index_or s.lens array 0) from to
 
+-- the cells of each span, in order
 abbrev pub spans_of : State → List SpanText → Result (List Span) FaultKind
 spans_of s [] = Ok []
 spans_of s (text ∷ texts) = span_of s text >>= λ span. spans_of s texts >>= λ spans. Ok (span ∷ spans)
 
+-- the value of each expression, in order
 abbrev pub values_of : State → List Term → Result (List ℤ) FaultKind
 values_of s [] = Ok []
 values_of s (e ∷ es) = value (scene s) e >>= λ x. values_of s es >>= λ xs. Ok (x ∷ xs)
@@ -59,12 +61,13 @@ abbrev pub handles_of : State → List (List ℕ) → Result (List Handle) Fault
 handles_of s [] = Ok []
 handles_of s (name ∷ names) = as_handle (meaning_of s.names name) >>= λ handle. handles_of s names >>= λ handles. Ok (handle ∷ handles)
 
--- the value of a peer and of a tag
+-- the value of a peer
 abbrev pub peer_value : State → PeerText → Result PeerValue FaultKind
 peer_value s (peer_text.At e) = value (scene s) e >>= λ x. Ok (whom.Number x)
 peer_value s peer_text.Any = Ok whom.Any
 peer_value s peer_text.Null = Ok whom.Null
 
+-- the value of a tag
 abbrev pub tag_value : State → TagText → Result TagValue FaultKind
 tag_value s (tag_text.At e) = value (scene s) e >>= λ x. Ok (chosen.Number x)
 tag_value s tag_text.Any = Ok chosen.Any

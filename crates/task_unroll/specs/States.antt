@@ -17,6 +17,7 @@ pub record Counts : Type 0 where
   pub access_cells : ℕ
   pub message_cells : ℕ
 
+-- the counts before the first rank
 abbrev pub nothing_counted : Counts
 nothing_counted = record { steps = 0; operations = 0; requests = 0; handles = 0; cells = 0; accesses = 0; access_cells = 0; message_cells = 0 }
 
@@ -40,6 +41,7 @@ pub record State : Type 0 where
   pub body : List Op
   pub lines : List ℕ
 
+-- where the expressions of a statement are evaluated
 abbrev pub scene : State → Scene
 scene s = record { names = s.names; rank = s.rank; size = s.size }
 

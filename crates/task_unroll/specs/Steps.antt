@@ -23,6 +23,7 @@ pub record Spot : Type 0 where
   pub place : ℕ
   pub levels : List Level
 
+-- the spot of a state, a place and the levels
 abbrev pub spot : State → ℕ → List Level → Spot
 spot state place levels = record { state = state; place = place; levels = levels }
 
@@ -31,14 +32,17 @@ abbrev pub variable_in : What → Option (List ℕ)
 variable_in (what.For name from to) = Some name
 variable_in _ = None
 
+-- the variable of the statement, where it is a `for`
 abbrev pub variable_of : Option Stmt → Option (List ℕ)
 variable_of None = None
 variable_of (Some s) = variable_in s.what
 
+-- the statement is an `else`
 abbrev pub is_else : What → Bool
 is_else what.Else = true
 is_else _ = false
 
+-- a statement stands there, and it is an `else`
 abbrev pub parts : Option Stmt → Bool
 parts None = false
 parts (Some s) = is_else s.what
@@ -64,6 +68,7 @@ branch stmts end false w = record w { place = end + 1; levels = if parts (slice_
 unfoldable pub test_met : List Stmt → ℕ → Term → ℕ → Spot → Result Spot ExpandRefusal
 test_met stmts line test end w = holds line test w.state >>= λ h. Ok (branch stmts end h.1 (record w { state = h.0 }))
 
+-- the levels round the innermost
 abbrev pub outer : List Level → List Level
 outer [] = []
 outer (one ∷ levels) = levels
@@ -72,11 +77,12 @@ outer (one ∷ levels) = levels
 unfoldable pub branch_left : ℕ → Spot → Spot
 branch_left end w = record w { place = end + 1; levels = outer w.levels }
 
--- the end of a turn
+-- the end of a turn of the `for` with this variable
 abbrev pub turn_or_on : Option (List ℕ) → Turns → Spot → Result Spot ExpandRefusal
 turn_or_on None t w = Ok (record w { place = w.place + 1 })
 turn_or_on (Some name) t w = turn name t (w.place + 1) w
 
+-- the end of a turn of the `for` that stands where the turns say
 unfoldable pub turn_ended : List Stmt → Turns → Spot → Result Spot ExpandRefusal
 turn_ended stmts t w = turn_or_on (variable_of (slice_get stmts t.at)) t w
 
@@ -87,6 +93,7 @@ level_ended stmts (level.Turns t ∷ levels) w = turn_ended stmts t (record w { 
 level_ended stmts (level.Branch ∷ levels) w = Ok (record w { place = w.place + 1; levels = levels })
 level_ended stmts (level.Task line ∷ levels) w = task_ended line w.state >>= λ s. Ok (spot s (w.place + 1) levels)
 
+-- `end`
 unfoldable pub block_ended : List Stmt → Spot → Result Spot ExpandRefusal
 block_ended stmts w = level_ended stmts w.levels w
 
@@ -94,10 +101,11 @@ block_ended stmts w = level_ended stmts w.levels w
 unfoldable pub task_met : ℕ → Spot → Result Spot ExpandRefusal
 task_met line w = task_begun line w.state >>= λ s. Ok (spot s (w.place + 1) (level.Task line ∷ w.levels))
 
--- a statement that leads to the next one: an access line, and what is a line by itself
+-- a statement that leads to the next one: an access line
 unfoldable pub access_met : ℕ → Mode → SpanText → Spot → Result Spot ExpandRefusal
 access_met line mode span w = access_made line mode span w.state >>= λ s. Ok (record w { state = s; place = w.place + 1 })
 
+-- a statement that leads to the next one: one that is a line by itself
 unfoldable pub line_met : ℕ → What → Spot → Result Spot ExpandRefusal
 line_met line said w = act line said w.state >>= λ s. Ok (record w { state = s; place = w.place + 1 })
 
@@ -111,5 +119,6 @@ step_to stmts end line what.Task w = task_met line w
 step_to stmts end line (what.Touch mode span) w = access_met line mode span w
 step_to stmts end line said w = line_met line said w
 
+-- one statement
 unfoldable pub step : List Stmt → ℕ → What → Spot → Result Spot ExpandRefusal
 step stmts line said w = step_to stmts (close_of stmts (w.place + 1)) line said w

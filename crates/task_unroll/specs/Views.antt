@@ -2,6 +2,7 @@
 use Rattle.task_unroll.specs.declared.state.Counts.{Counts as Kept}
 use Rattle.task_unroll.specs.States.{Counts}
 
+-- each count, as it is kept
 abbrev pub counts_of : Kept → Counts
 counts_of c = record {
   steps = c.steps;
