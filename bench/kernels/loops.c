@@ -81,9 +81,29 @@ KERNEL add_in_place(cell *d, const cell *b, size_t n) {
         d[i] = (cell)((bits)d[i] + (bits)b[i]);
 }
 
+KERNEL sub_in_place(cell *d, const cell *a, size_t n) {
+    for (size_t i = 0; i < n; i++)
+        d[i] = (cell)((bits)a[i] - (bits)d[i]);
+}
+
+KERNEL scale_in_place(cell *d, size_t n, cell value) {
+    for (size_t i = 0; i < n; i++)
+        d[i] = (cell)((bits)d[i] * (bits)value);
+}
+
+KERNEL shift_in_place(cell *d, size_t n, int value) {
+    for (size_t i = 0; i < n; i++)
+        d[i] = d[i] >> value;
+}
+
 // each cell becomes the one before it
 KERNEL copy_along(cell *d, size_t n) {
     memmove(d + 1, d, (n - 1) * sizeof(cell));
+}
+
+// each cell becomes the one behind it
+KERNEL copy_back(cell *d, size_t n) {
+    memmove(d, d + 1, (n - 1) * sizeof(cell));
 }
 
 static int turn(const char *kernel, cell *d, const cell *a, const cell *b, size_t n) {
@@ -99,7 +119,11 @@ static int turn(const char *kernel, cell *d, const cell *a, const cell *b, size_
     else if (!strcmp(kernel, "least")) least(d, a, n);
     else if (!strcmp(kernel, "greatest")) greatest(d, a, n);
     else if (!strcmp(kernel, "add_in_place")) add_in_place(d, b, n);
+    else if (!strcmp(kernel, "sub_in_place")) sub_in_place(d, a, n);
+    else if (!strcmp(kernel, "scale_in_place")) scale_in_place(d, n, 11);
+    else if (!strcmp(kernel, "shift_in_place")) shift_in_place(d, n, 1);
     else if (!strcmp(kernel, "copy_along")) copy_along(d, n);
+    else if (!strcmp(kernel, "copy_back")) copy_back(d, n);
     else return 0;
     // no turn may be left out because the next one writes the same cells
     __asm__ volatile("" ::: "memory");

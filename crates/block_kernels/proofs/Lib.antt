@@ -1,4 +1,5 @@
 pub mod Extremes
+pub mod Groups
 pub mod Lengths
 pub mod Loops
 pub mod Numbers

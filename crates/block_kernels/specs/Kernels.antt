@@ -1,6 +1,6 @@
 -- What each kernel gives, as a list of cells. The table of kernels is this project's own.
 -- Sums, differences and products wrap at 64 bits, two's complement: they are taken in ℤ, and wrapped once.
-use Rattle.std.specs.Prelude.{ℕ, ◌+◌, ◌-◌, ℤ, pos, ◌+ℤ◌, ◌-ℤ◌, ◌*ℤ◌, ◌≤ℤ◌, List, map, length, slice_index_or, unwrap_or, fold, All, Contains}
+use Rattle.std.specs.Prelude.{ℕ, ◌+◌, ◌-◌, ℤ, pos, ◌+ℤ◌, ◌-ℤ◌, ◌*ℤ◌, ◌≤ℤ◌, List, ◌++◌, map, length, take, drop, slice_index_or, unwrap_or, fold, All, Contains}
 use Rattle.std.specs.List.{range_with_len, reduce}
 use Rattle.std.specs.Int.{int_wrap, int_shr, int_min, int_max, w64}
 
@@ -27,6 +27,10 @@ ramped count value step = cells_of count (λ i. wrapped (value +ℤ (pos i *ℤ 
 -- `copy`: the cells of the source (this project's)
 abbrev pub copied : List ℤ → List ℤ
 copied left = left
+
+-- a copy within one list: the cells at `from`, so many, stand at `to` too, and all others as before (this project's)
+abbrev pub copied_along : ℕ → ℕ → ℕ → List ℤ → List ℤ
+copied_along from to count cells = take to cells ++ (take count (drop from cells) ++ drop (to + count) cells)
 
 -- `add`: left[i] + right[i] (this project's)
 abbrev pub added : List ℤ → List ℤ → List ℤ

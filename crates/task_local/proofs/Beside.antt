@@ -2,17 +2,19 @@
 use Rattle.std.proofs.Common.{◌≡◌, ℕ, ◌+◌, ◌-◌, ◌<◌, ◌≤◌, ℤ, List, ◌++◌, length, get_or, take, drop, subst, Option, Some, None, inl, inr, sym, ap, ◌∙◌, refl, arith, drop-drop, length-drop, length-take, get_or-take, All, ⊎_elim}
 use Rattle.std.proofs.lemmas.List.{drop-append-le, take-append-le, length-take-le}
 use Rattle.std.proofs.lemmas.List.Elements.{All-more}
-use Rattle.std.proofs.Math.Seq.{drop-append-add}
+use Rattle.std.proofs.Math.Seq.{drop-append-add, drop-append_seam, take-append_seam}
 use Rattle.rt_base.specs.declared.data.Kernel.{Kernel}
 use Rattle.rt_base.specs.declared.data.Op.{Op}
 use Rattle.rt_base.specs.declared.data.Op.TheVariants as op
 use Rattle.rt_base.specs.declared.data.Span.{Span}
 use Rattle.rt_base.specs.Spans.{span_len}
 use Rattle.task_local.specs.declared.index.Region.{Region}
+use Rattle.block_kernels.specs.Kernels.{copied_along}
+use Rattle.rt_base.specs.declared.data.Kernel.TheVariants as kernel
 use Rattle.task_local.specs.Regions.{spliced}
 use Rattle.task_local.specs.declared.compute.Placed.{Placed}
 use Rattle.task_local.specs.Local.{kernel_value}
-use Rattle.task_local.specs.Kept.{TakesCells, HasScratchFor, IsScratchFor, HasRoomFor, IsScratchOf, source_place, source_len, source_in, place_in, AreApart, IsSeenBeside}
+use Rattle.task_local.specs.Kept.{TakesCells, HasScratchFor, IsScratchFor, HasRoomFor, IsScratchOf, source_place, source_len, source_in, place_in, AreApart, AreSame, IsSeenBeside}
 use Rattle.task_local.specs.Placed.{cells_at, placed_value}
 
 -- a part of the front
@@ -39,6 +41,16 @@ pub written_between : (at count : ℕ) (copy front back cells : List ℤ) → fr
 written_between at count copy front back cells is_front is_back len =
     let rest : back ≡ drop (at + length cells) copy = is_back ∙ drop-drop count at copy ∙ ap (λ n. drop (at + n) copy) (sym len) in
     ap (λ (f : List ℤ). f ++ (cells ++ back)) is_front ∙ ap (λ (r : List ℤ). take at copy ++ (cells ++ r)) rest
+
+-- cells that stand between a front and a back, as the part that they are of the whole
+pub between_is_part : (at count part part_count : ℕ) (copy front cells back : List ℤ) → front ++ (cells ++ back) ≡ copy → length front ≡ at
+    → length cells ≡ count → AreSame at count part part_count → cells ≡ cells_at part part_count copy
+between_is_part at count part part_count copy front cells back whole begins len same =
+    let behind : drop at copy ≡ cells ++ back =
+    ap (λ (all : List ℤ). drop at all) (sym whole) ∙ (ap (λ n. drop n (front ++ (cells ++ back))) (sym begins) ∙ drop-append_seam front (cells ++ back)) in
+    let front_of : take count (cells ++ back) ≡ cells =
+    ap (λ n. take n (cells ++ back)) (sym len) ∙ take-append_seam cells back in
+    rw (same.0, same.1) at (sym front_of ∙ ap (λ (all : List ℤ). take count all) (sym behind))
 
 -- the part of a source has its cells
 source_in_part : (ordered : List Region) (copy : List ℤ) (source : Option Span)
@@ -67,6 +79,29 @@ pub placed_value_is : (placed : Placed) (copy from with cells : List ℤ) (count
     → cells ≡ kernel_value placed.kernel count from with value step → spliced placed.dst.at cells copy ≡ placed_value placed copy
 placed_value_is placed copy from with cells count value step counts is_from is_with values steps is_cells =
     ap (λ (found : List ℤ). spliced placed.dst.at found copy) cc
+
+-- what the kernel that copies makes of its left source
+copied_value : (count : ℕ) (from with : List ℤ) (value step : ℤ) → kernel_value kernel.Copy count from with value step ≡ from
+unfolding kernel_value
+copied_value count from with value step = refl
+
+-- a copy of one part to another
+pub along_is : (placed : Placed) (copy : List ℤ) → placed.kernel ≡ kernel.Copy → placed.left.at + placed.left.count ≤ length copy
+    → TakesCells placed.kernel placed.dst.count placed.left.count placed.right.count placed.value
+    → copied_along placed.left.at placed.dst.at placed.dst.count copy ≡ placed_value placed copy
+along_is placed copy is fits takes =
+    let from : List ℤ = cells_at placed.left.at placed.left.count copy in
+    let with : List ℤ = cells_at placed.right.at placed.right.count copy in
+    let same : placed.left.count ≡ placed.dst.count =
+    subst (λ (k : Kernel). TakesCells k placed.dst.count placed.left.count placed.right.count placed.value) is takes in
+    let len : length from ≡ placed.dst.count = length-part placed.left.at placed.left.count copy fits ∙ same in
+    let moved : from ≡ kernel_value placed.kernel placed.dst.count from with placed.value placed.step =
+    sym (ap (λ (k : Kernel). kernel_value k placed.dst.count from with placed.value placed.step) is
+    ∙ copied_value placed.dst.count from with placed.value placed.step) in
+    let counted : copied_along placed.left.at placed.dst.at placed.dst.count copy ≡ spliced placed.dst.at from copy =
+    ap (λ n. take placed.dst.at copy ++ (take n (drop placed.left.at copy) ++ drop (placed.dst.at + placed.dst.count) copy)) (sym same)
+    ∙ ap (λ n. take placed.dst.at copy ++ (from ++ drop (placed.dst.at + n) copy)) (sym len) in
+    counted ∙ ap (λ (cells : List ℤ). spliced placed.dst.at cells copy) moved
 
 -- ---- scratch
 

@@ -95,6 +95,10 @@ source_place ordered (Some span) = place_in ordered span.array span.from
 abbrev pub AreApart : ℕ → ℕ → ℕ → ℕ → Type 0
 AreApart one one_count other other_count = (one + one_count ≤ other) ⊎ (other + other_count ≤ one)
 
+-- both parts of the copy are the same
+abbrev pub AreSame : ℕ → ℕ → ℕ → ℕ → Type 0
+AreSame one one_count other other_count = (one ≡ other) × (one_count ≡ other_count)
+
 -- so many cells are scratch enough: the destination lies apart from both sources, or has no more cells
 abbrev pub IsRoomFor : ℕ → ℕ → ℕ → ℕ → ℕ → ℕ → ℕ → Type 0
 IsRoomFor scratch at count left left_count right right_count =

@@ -1,9 +1,12 @@
 -- A local operation whose spans are parts of the copy. No clause of a public call cites this module.
-use Rattle.std.specs.Prelude.{ℕ, ◌+◌, ◌≤◌, List, take, drop, ℤ}
+use Rattle.std.specs.Prelude.{◌≡◌, ℕ, ◌+◌, ◌≤◌, List, take, drop, ℤ}
+use Rattle.rt_base.specs.declared.data.Kernel.TheVariants as kernel
 use Rattle.task_local.specs.declared.compute.Placed.{Placed}
+use Rattle.task_local.specs.declared.compute.Way.{Way}
+use Rattle.task_local.specs.declared.compute.Way.TheVariants as way
 use Rattle.task_local.specs.Regions.{spliced}
 use Rattle.task_local.specs.Local.{kernel_value}
-use Rattle.task_local.specs.Kept.{TakesCells, AreApart, IsRoomFor}
+use Rattle.task_local.specs.Kept.{TakesCells, AreApart, AreSame, IsRoomFor}
 
 -- the parts lie in a copy of so many cells, and the kernel takes so many from each
 pub record FitPlaces (copy : ℕ) (placed : Placed) : Type 0 where
@@ -16,6 +19,30 @@ pub record FitPlaces (copy : ℕ) (placed : Placed) : Type 0 where
 abbrev pub IsApart : Placed → Type 0
 IsApart placed =
     AreApart placed.dst.at placed.dst.count placed.left.at placed.left.count × AreApart placed.dst.at placed.dst.count placed.right.at placed.right.count
+
+-- the destination is the left source, and lies apart from the right one
+abbrev pub IsOverLeft : Placed → Type 0
+IsOverLeft placed =
+    AreSame placed.dst.at placed.dst.count placed.left.at placed.left.count × AreApart placed.dst.at placed.dst.count placed.right.at placed.right.count
+
+-- the destination is the right source, and lies apart from the left one
+abbrev pub IsOverRight : Placed → Type 0
+IsOverRight placed =
+    AreSame placed.dst.at placed.dst.count placed.right.at placed.right.count × AreApart placed.dst.at placed.dst.count placed.left.at placed.left.count
+
+-- the destination is both sources
+abbrev pub IsOverBoth : Placed → Type 0
+IsOverBoth placed =
+    AreSame placed.dst.at placed.dst.count placed.left.at placed.left.count × AreSame placed.dst.at placed.dst.count placed.right.at placed.right.count
+
+-- the operation can reach its cells in this way
+abbrev pub FitsWay : Placed → Way → Type 0
+FitsWay placed way.Apart = IsApart placed
+FitsWay placed way.Along = placed.kernel ≡ kernel.Copy
+FitsWay placed way.OverLeft = IsOverLeft placed
+FitsWay placed way.OverRight = IsOverRight placed
+FitsWay placed way.OverBoth = IsOverBoth placed
+FitsWay placed way.Scratch = ¬ IsApart placed
 
 -- so many cells are scratch enough for the operation
 abbrev pub HasScratch : ℕ → Placed → Type 0

@@ -4,11 +4,13 @@ ghost use Rattle.std.specs.Prelude.{◌≡◌, ◌^◌, ◌<◌, ◌≤◌, leng
 ghost use Rattle.rt_base.specs.Spans.{span_len};
 ghost use Rattle.task_local.specs.Regions.{regions};
 ghost use Rattle.task_local.specs.Local.{kernel_value, computed, run_front, stop_at};
-ghost use Rattle.task_local.specs.Placed.{FitPlaces, IsApart, HasScratch, placed_value};
+ghost use Rattle.task_local.specs.Placed.{FitPlaces, IsApart, IsOverLeft, IsOverRight, IsOverBoth, FitsWay, HasScratch, placed_value};
 ghost use Rattle.task_local.specs.Kept.{TakesCells, CanRun, FitsSend, IsScratchFor, IsScratchOf, sent_in};
 
 use crate::index::{RegionIndex, cells_in};
-use crate::parts::{Part, cells_beside, is_apart_from_sources, part_of_source, part_of_span};
+use crate::parts::{
+    Part, cells_beside, is_apart, is_apart_from_sources, is_same, part_of_source, part_of_span,
+};
 use rt_base::{Kernel, Op, Phase, TaskDef};
 
 // Runs the local operations from this one on, up to the first other operation or the end of the body.
@@ -114,10 +116,59 @@ pub(crate) fn run_placed(copy: &mut [i64], scratch: &mut [i64], placed: &Placed)
     requires room { HasScratch (length scratch.old) placed.now }
     ensures { copy.new ≡ placed_value placed.now copy.old }
 {
-    if is_apart_from_sources(placed.dst, placed.left, placed.right) {
-        run_into_copy(copy, placed);
-    } else {
-        run_into_scratch(copy, scratch, placed);
+    match way_of(placed) {
+        Way::Apart => run_into_copy(copy, placed),
+        Way::Along => block_kernels::copy_along(
+            copy,
+            placed.left.at,
+            placed.dst.at,
+            placed.dst.count,
+        ),
+        Way::OverLeft => run_over_left(copy, placed),
+        Way::OverRight => run_over_right(copy, placed),
+        Way::OverBoth => run_over_both(copy, placed),
+        Way::Scratch => run_into_scratch(copy, scratch, placed),
+    }
+}
+
+// How a kernel reaches its cells.
+enum Way {
+    // the destination lies apart from both sources
+    Apart,
+    // the cells of one part are copied to another, which may share cells with it
+    Along,
+    // the destination is the left source, and lies apart from the right one
+    OverLeft,
+    // the destination is the right source, and lies apart from the left one
+    OverRight,
+    // the destination is both sources
+    OverBoth,
+    // the destination shares cells with a source in another way
+    Scratch,
+}
+
+// The way in which a kernel reaches its cells.
+fn way_of(placed: &Placed) -> Way
+    ensures { FitsWay placed.now result }
+{
+    let Placed {
+        kernel,
+        dst,
+        left,
+        right,
+        ..
+    } = *placed;
+    if is_apart_from_sources(dst, left, right) {
+        return Way::Apart;
+    }
+    if let Kernel::Copy = kernel {
+        return Way::Along;
+    }
+    match (is_same(dst, left), is_same(dst, right)) {
+        (true, true) => Way::OverBoth,
+        (true, false) if is_apart(dst, right) => Way::OverLeft,
+        (false, true) if is_apart(dst, left) => Way::OverRight,
+        _ => Way::Scratch,
     }
 }
 
@@ -133,6 +184,43 @@ fn run_into_copy(copy: &mut [i64], placed: &Placed)
     let from = cells_beside(front, back, at + count, placed.left);
     let with = cells_beside(front, back, at + count, placed.right);
     run_kernel(placed.kernel, cells, from, with, placed.value, placed.step);
+}
+
+// Runs a kernel whose destination is its left source.
+fn run_over_left(copy: &mut [i64], placed: &Placed)
+    requires fits { FitPlaces (length copy.old) placed.now }
+    requires over { IsOverLeft placed.now }
+    ensures { copy.new ≡ placed_value placed.now copy.old }
+{
+    let Part { at, count } = placed.dst;
+    let (front, rest) = copy.split_at_mut(at);
+    let (cells, back) = rest.split_at_mut(count);
+    let with = cells_beside(front, back, at + count, placed.right);
+    run_kernel_over_left(placed.kernel, cells, with, placed.value, placed.step);
+}
+
+// Runs a kernel whose destination is its right source.
+fn run_over_right(copy: &mut [i64], placed: &Placed)
+    requires fits { FitPlaces (length copy.old) placed.now }
+    requires over { IsOverRight placed.now }
+    ensures { copy.new ≡ placed_value placed.now copy.old }
+{
+    let Part { at, count } = placed.dst;
+    let (front, rest) = copy.split_at_mut(at);
+    let (cells, back) = rest.split_at_mut(count);
+    let from = cells_beside(front, back, at + count, placed.left);
+    run_kernel_over_right(placed.kernel, cells, from, placed.value, placed.step);
+}
+
+// Runs a kernel whose destination is both sources.
+fn run_over_both(copy: &mut [i64], placed: &Placed)
+    requires fits { FitPlaces (length copy.old) placed.now }
+    requires over { IsOverBoth placed.now }
+    ensures { copy.new ≡ placed_value placed.now copy.old }
+{
+    let Part { at, count } = placed.dst;
+    let cells = &mut copy[at..at + count];
+    run_kernel_over_both(placed.kernel, cells, placed.value, placed.step);
 }
 
 // Runs a kernel whose destination may share cells with its sources.
@@ -167,6 +255,63 @@ fn run_kernel(kind: Kernel, dst: &mut [i64], left: &[i64], right: &[i64], value:
         Kernel::Sum => block_kernels::fill(dst, block_kernels::sum(left)),
         Kernel::Least => block_kernels::fill(dst, block_kernels::least(left)),
         Kernel::Greatest => block_kernels::fill(dst, block_kernels::greatest(left)),
+    }
+}
+
+// Writes what the kernel gives over its left source.
+#[tactic(auto, unfolding(crate::specs::Local::kernel_value))]
+fn run_kernel_over_left(kind: Kernel, dst: &mut [i64], right: &[i64], value: i64, step: i64)
+    requires { TakesCells kind (length dst.old) (length dst.old) (length right.now) value }
+    ensures { dst.new ≡ kernel_value kind (length dst.old) dst.old right.now value step }
+{
+    match kind {
+        Kernel::Fill => block_kernels::fill(dst, value),
+        Kernel::Ramp => block_kernels::ramp(dst, value, step),
+        Kernel::Copy => {}
+        Kernel::Add => block_kernels::add_to_left(dst, right),
+        Kernel::Sub => block_kernels::sub_to_left(dst, right),
+        Kernel::Scale => block_kernels::scale_to_left(dst, value),
+        Kernel::Shift => block_kernels::shift_to_left(dst, value as u32),
+        // it takes two cells more than it gives
+        Kernel::Jacobi2 => {}
+        Kernel::Sum => {
+            let total = block_kernels::sum(dst);
+            block_kernels::fill(dst, total);
+        }
+        Kernel::Least => {
+            let least = block_kernels::least(dst);
+            block_kernels::fill(dst, least);
+        }
+        Kernel::Greatest => {
+            let greatest = block_kernels::greatest(dst);
+            block_kernels::fill(dst, greatest);
+        }
+    }
+}
+
+// Writes what the kernel gives over its right source.
+#[tactic(auto, unfolding(crate::specs::Local::kernel_value))]
+fn run_kernel_over_right(kind: Kernel, dst: &mut [i64], left: &[i64], value: i64, step: i64)
+    requires { TakesCells kind (length dst.old) (length left.now) (length dst.old) value }
+    ensures { dst.new ≡ kernel_value kind (length dst.old) left.now dst.old value step }
+{
+    match kind {
+        Kernel::Add => block_kernels::add_to_right(dst, left),
+        Kernel::Sub => block_kernels::sub_to_right(dst, left),
+        _ => run_kernel(kind, dst, left, &[], value, step),
+    }
+}
+
+// Writes what the kernel gives over both its sources.
+#[tactic(auto, unfolding(crate::specs::Local::kernel_value))]
+fn run_kernel_over_both(kind: Kernel, dst: &mut [i64], value: i64, step: i64)
+    requires { TakesCells kind (length dst.old) (length dst.old) (length dst.old) value }
+    ensures { dst.new ≡ kernel_value kind (length dst.old) dst.old dst.old value step }
+{
+    match kind {
+        Kernel::Add => block_kernels::add_to_both(dst),
+        Kernel::Sub => block_kernels::sub_to_both(dst),
+        _ => run_kernel_over_left(kind, dst, &[], value, step),
     }
 }
 

@@ -2,7 +2,7 @@
 
 ghost use Rattle.std.specs.Prelude.{◌≡◌, ◌+◌, ◌≤◌, length, IsTrue, ◌↔◌};
 ghost use Rattle.rt_base.specs.Spans.{span_len};
-ghost use Rattle.task_local.specs.Kept.{place_in, source_place, source_len, AreApart, FitsBeside, IsSeenBeside};
+ghost use Rattle.task_local.specs.Kept.{place_in, source_place, source_len, AreApart, AreSame, FitsBeside, IsSeenBeside};
 
 use crate::index::RegionIndex;
 use rt_base::Span;
@@ -44,10 +44,17 @@ pub(crate) fn is_apart_from_sources(dst: Part, left: Part, right: Part) -> bool
 }
 
 // Whether one part ends before the other begins.
-fn is_apart(one: Part, other: Part) -> bool
+pub(crate) fn is_apart(one: Part, other: Part) -> bool
     ensures { IsTrue result ↔ AreApart one.at one.count other.at other.count }
 {
     ends_by(one, other.at) || ends_by(other, one.at)
+}
+
+// Whether both are the same part.
+pub(crate) fn is_same(one: Part, other: Part) -> bool
+    ensures { IsTrue result ↔ AreSame one.at one.count other.at other.count }
+{
+    one.at == other.at && one.count == other.count
 }
 
 // Whether the part ends before this place.

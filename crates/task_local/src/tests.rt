@@ -101,6 +101,80 @@ fn sources_are_read_before_a_cell_is_written(rt: HostRuntime) {
     }
 }
 
+// The same where the destination is a source, or both; and where one cell more or less is shared.
+#[test]
+fn a_destination_may_be_a_source(rt: HostRuntime) {
+    let all = Part { at: 0, count: 5 };
+    let front = Part { at: 0, count: 2 };
+    let middle = Part { at: 1, count: 3 };
+    let later = Part { at: 2, count: 3 };
+    let back = Part { at: 3, count: 2 };
+    let none = Part { at: 0, count: 0 };
+    let rows = [
+        (
+            left_by(Kernel::Add, front, front, back, 0),
+            [-7, 14, 4, -8, 16],
+        ),
+        (
+            left_by(Kernel::Add, front, back, front, 0),
+            [-7, 14, 4, -8, 16],
+        ),
+        (
+            left_by(Kernel::Sub, front, front, back, 0),
+            [9, -18, 4, -8, 16],
+        ),
+        (
+            left_by(Kernel::Sub, front, back, front, 0),
+            [-9, 18, 4, -8, 16],
+        ),
+        (left_by(Kernel::Add, all, all, all, 0), [2, -4, 8, -16, 32]),
+        (left_by(Kernel::Sub, all, all, all, 0), [0, 0, 0, 0, 0]),
+        (
+            left_by(Kernel::Scale, middle, middle, none, 3),
+            [1, -6, 12, -24, 16],
+        ),
+        (
+            left_by(Kernel::Shift, middle, middle, none, 1),
+            [1, -1, 2, -4, 16],
+        ),
+        (
+            left_by(Kernel::Add, middle, middle, later, 0),
+            [1, 2, -4, 8, 16],
+        ),
+        (
+            left_by(Kernel::Sub, later, middle, later, 0),
+            [1, -2, -6, 12, -24],
+        ),
+    ];
+    for (found, want) in rows {
+        assert_eq!(rt; found, want);
+    }
+}
+
+// A copy within the five cells, by one cell and by two, in both directions, and onto itself.
+#[test]
+fn cells_are_copied_along(rt: HostRuntime) {
+    let none = Part { at: 0, count: 0 };
+    let rows = [
+        (1, 0, 4, [1, 1, -2, 4, -8]),
+        (0, 1, 4, [-2, 4, -8, 16, 16]),
+        (2, 0, 3, [1, -2, 1, -2, 4]),
+        (0, 2, 3, [4, -8, 16, -8, 16]),
+        (1, 1, 3, [1, -2, 4, -8, 16]),
+    ];
+    for (to, from, count, want) in rows {
+        let dst = Part { at: to, count };
+        let left = Part { at: from, count };
+        if to + count <= 5 && from + count <= 5 {
+            assert_eq!(rt;
+                left_by(Kernel::Copy, dst, left, none, 0),
+                want,
+                "{from} to {to}"
+            );
+        }
+    }
+}
+
 // The same where the destination lies before its sources, behind them or between them.
 #[test]
 fn sources_may_lie_on_either_side(rt: HostRuntime) {
