@@ -131,13 +131,14 @@ module _ {shelf : Shelf} {held : Record} {t k n count : ℕ} {def : TaskDef} {po
       ap (entry.Call (task_no t) k)
       (call_count ∙ sym (open_one shelf.program (exchange_after shelf t k def c.here.was) (request t (nth_at def k))))
 
-  pub call_opens : {number : ℕ} {listed : List ReqNo} → number ≡ cond (blocks posting.how) count 0
-      → listed ≡ cond (number == 0) [] (request t n ∷ []) → listed ≡ opened shelf.program (state_now shelf) t
-  call_opens is_number is_listed =
+  pub call_opens : {number : ℕ} {listed none : List ReqNo} → number ≡ cond (blocks posting.how) count 0 → none ≡ []
+      → listed ≡ none ++ cond (number == 0) [] (request t n ∷ []) → listed ≡ opened shelf.program (state_now shelf) t
+  call_opens {number = number} is_number cleared is_listed =
       let p : Program = shelf.program in
       let s : State = state_now shelf in
       let done : Bool = is_complete p (exchange_after shelf t k def c.here.was) (request t (nth_at def k)) in
-      is_listed ∙ ap (λ (m : ℕ). cond (m == 0) [] (request t n ∷ [])) is_number
+      is_listed ∙ ap (λ (z : List ReqNo). z ++ cond (number == 0) [] (request t n ∷ [])) cleared
+      ∙ ap (λ (m : ℕ). cond (m == 0) [] (request t n ∷ [])) is_number
       ∙ ap (λ (m : ℕ). cond (cond (blocks posting.how) m 0 == 0) [] (request t n ∷ [])) call_count
       ∙ opens_if (blocks posting.how) done (request t n)
       ∙ ap (λ (i : ℕ). cond (blocks posting.how) (cond done [] (request t i ∷ [])) []) a.nth
@@ -172,9 +173,9 @@ module _ {shelf : Shelf} {held : Record} {t k n count : ℕ} {def : TaskDef} {po
       (call_notices marked (ap (λ (z : List ReqNo). shelf.notices ++ z) told) ∙ ap (λ (z : Moved). z.state.notices) (sym (call_made c))) in
       omega (arith, length-append shelf.notices more)
 
-  pub call_moved : (at : Phase) (notices : List ReqNo) (entries : List Entry) (waits posted incomplete : List ℕ) (listed : List ReqNo)
-      (entry_places notice_places opened_places : ℕ) → MarksBound (state_now shelf) shelf.marks
-      → notices ≡ shelf.notices ++ completed_now shelf.program (expects_now shelf.program shelf.phases shelf.marks) found
+  pub call_moved : {at : Phase} {notices more listed : List ReqNo} {entries : List Entry} {entry_places notice_places opened_places : ℕ}
+      (waits posted incomplete : List ℕ) → MarksBound (state_now shelf) shelf.marks → notices ≡ shelf.notices ++ more
+      → more ≡ completed_now shelf.program (expects_now shelf.program shelf.phases shelf.marks) found
       → at ≡ cond (blocks posting.how) (phase.In k) (stop def (k + 1)) → entries ≡ shelf.entries ++ entry.Call (task_no t) k count ∷ []
       → listed ≡ opened shelf.program (state_now shelf) t
       → shelf.entry_places ≤ entry_places → shelf.notice_places ≤ notice_places → shelf.opened_places ≤ opened_places
@@ -191,7 +192,7 @@ module _ {shelf : Shelf} {held : Record} {t k n count : ℕ} {def : TaskDef} {po
         notice_places = notice_places;
         opened_places = opened_places;
       }) t c.here.was (posted_task def k (blocks posting.how) c.here.was) (call_moves c)
-  call_moved at notices entries waits posted incomplete listed entry_places notice_places opened_places marked told stops grown opens more more' more'' =
+  call_moved waits posted incomplete marked told tells stops grown opens more more' more'' =
       record {
         may = call_may c;
         moved = call_made c;
@@ -209,7 +210,7 @@ module _ {shelf : Shelf} {held : Record} {t k n count : ℕ} {def : TaskDef} {po
         phases = ap (slice_set shelf.phases t) (stops ∙ sym (posted_phase def k (blocks posting.how) c.here.was));
         memory = kept.memory_is;
         cells = refl;
-        notices = call_notices marked told;
+        notices = call_notices marked (told ∙ ap (λ (z : List ReqNo). shelf.notices ++ z) tells);
         entries = grown ∙ ap (λ (e : Entry). shelf.entries ++ e ∷ []) call_entry;
         statuses = kept.legal.told;
         opened = opens;

@@ -1,10 +1,11 @@
 -- What the end of a posting in which a task waited asks for, and what it stores, in terms of a book's fields.
 use Rattle.std.proofs.Common.{◌≡◌, ℕ, ◌+◌, ◌≤◌, Bool, true, false, cond, List, [], ◌∷◌, length, filter, slice_get, Some, None}
-use Rattle.std.proofs.Common.{Option, IsSome, IfSome, refl, sym, ap, ◌∙◌, subst, arith}
+use Rattle.std.proofs.Common.{Option, refl, sym, ap, ◌∙◌, subst, arith}
 use Rattle.std.specs.Prelude.{ℤ}
 use Rattle.std.proofs.lemmas.List.{length-take}
 use Rattle.rt_base.specs.declared.data.ReqNo.{ReqNo}
 use Rattle.rt_base.specs.declared.data.Span.{Span}
+use Rattle.rt_base.specs.declared.data.How.{How}
 use Rattle.rt_base.specs.declared.data.Op.{Op}
 use Rattle.rt_base.specs.declared.data.Op.TheVariants as op
 use Rattle.rt_base.specs.declared.data.Phase.{Phase}
@@ -15,13 +16,14 @@ use Rattle.rt_base.specs.declared.data.Program.{Program}
 use Rattle.rt_base.specs.Spans.{span_len}
 use Rattle.rt_base.specs.Operations.{request, is_receive, is_posting, nth_at, posting_of, awaited}
 use Rattle.rt_base.specs.Exchange.{Exchange, Match}
-use Rattle.rt_base.specs.Completion.{is_complete, request_cells, receive_cells, cells_by, match_with}
+use Rattle.rt_base.specs.Completion.{is_complete, request_cells, request_status, receive_cells, cells_by, match_with}
 use Rattle.rt_base.specs.State.{Task}
 use Rattle.rt_base.specs.MayMove.{MayMove, AreComplete}
 use Rattle.rt_base.specs.WellFormed.{IsPostingOf, IsDeclared}
 use Rattle.task_local.specs.Regions.{put}
 use Rattle.task_local.specs.Waits.{taken, told, put_statuses, put_at_posting}
 use Rattle.task_local.specs.StandsFor.{Record, StandsFor}
+use Rattle.wait_steps.specs.StatusSpans.{HasPlaces}
 use Rattle.core_book.specs.declared.posting.Posting.{Posting}
 use Rattle.task_local.specs.Standing.{def_of, phase_before}
 use Rattle.task_machine.specs.Legal.{final}
@@ -71,6 +73,14 @@ posts_request p t k def posting is_def posts = record {
   comm = posts.comm;
   is = posting_is p t k def (op.Post posting.how posting.span posts.peer posts.tag posts.comm posting.status) is_def posts.is refl;
 }
+
+-- a status span has room for what its posting tells
+places_told : (def : TaskDef) (how : How) (status : Option Span) (here : List Status) (p : Program) (e : Exchange) (req : ReqNo) → here ≡ told_now p e req how
+    → HasStatus def how status → HasPlaces def status (length here)
+places_told def how None here p e req tells own = tt
+places_told def how (Some span) here p e req tells own =
+    let one = ap (λ (z : List Status). length z) (tells ∙ ap (λ (b : Bool). cond b (request_status p e req ∷ []) []) (own.receive refl)) in
+    (own.declared.0, omega (arith, one, own.declared.1))
 
 -- what the posting tells, and what is stored
 told_is : (p : Program) (e : Exchange) (t k : ℕ) (def : TaskDef) (posting : Posting) → PostsAs (slice_get def.body.items k) posting
@@ -156,19 +166,18 @@ module _ {shelf : Shelf} {held : Record} {t k n : ℕ} {def : TaskDef} {posting 
       ∙ sym (taken_is p e t k def posting was.copy i.posts)
 
   -- where the record is left
-  pub leave_left : {stored put_both after : Record} {next : Phase} (cells : List ℤ)
+  pub leave_left : {stored put_both after : Record} {next : Phase} {here : List Status} (cells : List ℤ)
       → cells ≡ request_cells shelf.engine.program shelf.engine.exchange (request t n)
       → stored ≡ record held { copy = put (def_of held.program held.task) posting.span cells held.copy }
-      → put_both ≡ record stored {
-        copy = put_statuses (def_of stored.program stored.task) posting.status
-            (told_now shelf.engine.program shelf.engine.exchange (request t n) posting.how) stored.copy;
-      } → next ≡ phase_before def (k + 1) → after ≡ record put_both { phase = next }
+      → here ≡ told_now shelf.engine.program shelf.engine.exchange (request t n) posting.how
+      → put_both ≡ record stored { copy = put_statuses (def_of stored.program stored.task) posting.status here stored.copy }
+      → next ≡ phase_before def (k + 1) → after ≡ record put_both { phase = next }
       → after ≡ record held { phase = phase_before def (k + 1); copy = taken shelf.program (state_now shelf).exchange t def k i.in_it.here.was.copy }
-  leave_left {stored = stored} {next = next} cells received went went' is goes =
-      let both : List ℤ =
-      put_statuses (def_of stored.program stored.task) posting.status (told_now shelf.engine.program shelf.engine.exchange
-      (request t n) posting.how) stored.copy in
-      let copied : both ≡ taken shelf.program (state_now shelf).exchange t def k i.in_it.here.was.copy = copy_taken stored cells both received went refl in
+  leave_left {stored = stored} {next = next} {here = here} cells received went tells went' is goes =
+      let both : List ℤ = put_statuses (def_of stored.program stored.task) posting.status here stored.copy in
+      let copied : both ≡ taken shelf.program (state_now shelf).exchange t def k i.in_it.here.was.copy =
+      copy_taken stored cells both received went
+      (ap (λ (z : List Status). put_statuses (def_of stored.program stored.task) posting.status z stored.copy) tells) in
       goes ∙ ap (λ (z : Record). record z { phase = next }) (went' ∙ ap (λ (z : Record). record z { copy = both }) went)
       ∙ ap (λ (q : Phase). record held { copy = both; phase = q }) is
       ∙ ap (λ (z : List ℤ). record held { copy = z; phase = phase_before def (k + 1) }) copied
@@ -190,11 +199,9 @@ module _ {shelf : Shelf} {held : Record} {t k : ℕ} {def : TaskDef} {posting : 
   own_status : HasStatus def posting.how posting.status
   own_status = has_status shelf.program def posting.how posting.span i.posts.peer i.posts.tag posting.status posting_allowed
 
-  pub status_received : IsSome posting.status → is_receive posting.how ≡ true
-  status_received = own_status.receive
-
-  pub status_declared : {stored : Record} {copy : List ℤ} → stored ≡ record held { copy = copy }
-      → IfSome posting.status (λ (span : Span). IsDeclared (def_of stored.program stored.task).accesses.items span × (span_len span ≡ 4))
-  status_declared {stored = stored} {copy = copy} went =
-      subst (λ (d : TaskDef). IfSome posting.status (λ (span : Span). IsDeclared d.accesses.items span × (span_len span ≡ 4)))
-      (sym (stored_def held stored def copy i.in_it.here.held_def went)) own_status.declared
+  -- where its status goes there is room for what it tells
+  pub status_places : {stored : Record} {copy : List ℤ} {here : List Status} (p : Program) (e : Exchange) (req : ReqNo) → stored ≡ record held { copy = copy }
+      → here ≡ told_now p e req posting.how → HasPlaces (def_of stored.program stored.task) posting.status (length here)
+  status_places {stored = stored} {copy = copy} {here = here} p e req went tells =
+      subst (λ (d : TaskDef). HasPlaces d posting.status (length here)) (sym (stored_def held stored def copy i.in_it.here.held_def went))
+      (places_told def posting.how posting.status here p e req tells own_status)

@@ -1,7 +1,8 @@
 -- The move that the end of an operation makes, and where it leaves the book and the record.
-use Rattle.std.proofs.Common.{◌≡◌, ℕ, ◌+◌, ◌≤◌, List, [], ◌∷◌, ◌++◌, length, slice_set}
+use Rattle.std.proofs.Common.{◌≡◌, ℕ, ◌+◌, ◌≤◌, List, [], ◌∷◌, ◌++◌, drop, length, slice_set}
 use Rattle.std.proofs.Common.{refl, sym, ap, ◌∙◌, subst, arith}
 use Rattle.std.specs.Prelude.{ℤ}
+use Rattle.std.proofs.Math.Seq.{drop-append_seam}
 use Rattle.rt_base.specs.declared.data.ReqNo.{ReqNo}
 use Rattle.rt_base.specs.declared.data.Phase.{Phase}
 use Rattle.rt_base.specs.declared.data.Phase.TheVariants as phase
@@ -69,6 +70,11 @@ module _ {shelf : Shelf} {held : Record} {t k : ℕ} {def : TaskDef} (i : Within
       ∙ ap (λ (z : List ℤ). record held { phase = phase_before def (k + 1); copy = taken shelf.program (state_now shelf).exchange held.task def k z })
       (sym i.here.stands.1)
 
+-- what was told, as it is read back
+pub told_back : (old : List Status) {more seen here : List Status} {from : ℕ} → from ≡ length old → seen ≡ old ++ more → here ≡ drop from seen → here ≡ more
+told_back old {more = more} {seen = seen} is grown read =
+    read ∙ ap (λ (n : ℕ). drop n seen) is ∙ ap (λ (z : List Status). drop (length old) z) grown ∙ drop-append_seam old more
+
 -- the insides after a leave
 abbrev pub shelf_left : Shelf → ℕ → Phase → List Status → List Entry → List ReqNo → ℕ → ℕ → ℕ → Shelf
 shelf_left shelf t next statuses entries listed entry_places status_places opened_places = record shelf {
@@ -81,15 +87,14 @@ shelf_left shelf t next statuses entries listed entry_places status_places opene
   opened_places = opened_places;
 }
 
-pub leave_moved : (shelf : Shelf) (held : Record) (t k from count : ℕ) (def : TaskDef) (tells : List Status) (next : Phase) (statuses : List Status)
-    (entries : List Entry) (listed : List ReqNo)
-    (entry_places status_places opened_places : ℕ) → KeepsState shelf → (i : Within shelf held t k def) → Leaves shelf statuses entries t k from count tells
-    → tells ≡ told shelf.program (state_now shelf).exchange t def k
+pub leave_moved : {shelf : Shelf} {held : Record} {t k from count : ℕ} {def : TaskDef} {tells : List Status} {next : Phase} {statuses : List Status}
+    {entries : List Entry} {listed : List ReqNo} {entry_places status_places opened_places : ℕ} → KeepsState shelf → (i : Within shelf held t k def)
+    → Leaves shelf statuses entries t k from count tells → tells ≡ told shelf.program (state_now shelf).exchange t def k
     → next ≡ stop def (k + 1) → listed ≡ [] → shelf.entry_places ≤ entry_places → shelf.status_places ≤ status_places → shelf.opened_places ≤ opened_places
     → IsMoved shelf (shelf_left shelf t next statuses entries listed entry_places status_places opened_places) t i.here.was
     (left_task shelf t k def i.here.was) (leave_move shelf.program (state_now shelf) t def i.here.was k)
-leave_moved shelf held t k from count def tells next statuses entries listed entry_places status_places opened_places kept i leaves same stops none more
-    more' more'' =
+leave_moved {shelf = shelf} {held = held} {t = t} {k = k} {from = from} {count = count} {def = def} {tells = tells} {statuses = statuses} {entries = entries}
+    kept i leaves same stops none more more' more'' =
     let s : State = state_now shelf in
     record {
       may = i.may;

@@ -16,6 +16,7 @@ pub mod NewBook
 pub mod Within
 pub mod LeaveLemmas
 pub mod LeaveMoved
+pub mod AwaitLemmas
 pub mod WaitLemmas
 pub mod WaitEnds
 pub mod BindLemmas

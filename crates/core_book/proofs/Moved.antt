@@ -4,7 +4,6 @@ use Rattle.std.proofs.Common.{inl, inr, arith}
 use Rattle.std.specs.Prelude.{option_map}
 use Rattle.std.proofs.lemmas.List.{map-set, length-append, length-map}
 use Rattle.std.proofs.lemmas.Option.{slice_get_within}
-use Rattle.rt_base.specs.declared.data.ReqNo.{ReqNo}
 use Rattle.rt_base.specs.declared.data.Phase.{Phase}
 use Rattle.rt_base.specs.declared.data.Phase.TheVariants as phase
 use Rattle.rt_base.specs.declared.data.Entry.{Entry}
@@ -18,7 +17,7 @@ use Rattle.rt_base.specs.WellFormed.{WellFormed}
 use Rattle.region_deps.specs.Readiness.{IsWhole}
 use Rattle.task_local.specs.StandsFor.{Record, StandsAs}
 use Rattle.task_local.specs.Standing.{def}
-use Rattle.task_machine.specs.Machine.{Moved, move, with_task}
+use Rattle.task_machine.specs.Machine.{Moved, move}
 use Rattle.task_machine.specs.Legal.{callers, caller, final, IsLegal, phases_of, state_of}
 use Rattle.task_machine.specs.Owed.{opened, opened_at, last_opened}
 use Rattle.task_machine.proofs.Runs.{final-push, legal-push, exists_of_move, step-task, state_after-push, IsDefined-push}
@@ -139,45 +138,6 @@ gone_same tasks t was now is_task held held' =
 pub gone_kept : (shelf : Shelf) (t : ℕ) (was now : Task) → KeepsState shelf → slice_get (state_now shelf).tasks t ≡ Some was
     → is_released was.phase ≡ false → is_released now.phase ≡ false → shelf.ready.gone ≡ let_go (slice_set (state_now shelf).tasks t now)
 gone_kept shelf t was now k is_task held held' = k.gone_is ∙ gone_same (state_now shelf).tasks t was now is_task held held'
-
--- a move of task t alone, that tells nothing, takes no message and opens nothing
-pub moved_alone : (shelf : Shelf) (t : ℕ) (was now : Task) (e : Entry) (at : Phase) (entries : List Entry) (waits : List ℕ) (found : List ReqNo)
-    (places places' : ℕ) → KeepsState shelf → MayMove shelf.program (state_now shelf) t
-    → move shelf.program (state_now shelf) t ≡ record { state = with_task (state_now shelf) t now; entry = e }
-    → slice_get (state_now shelf).tasks t ≡ Some was → is_released was.phase ≡ false → is_released now.phase ≡ false
-    → slice_get shelf.ready.handed t ≡ Some true → at ≡ now.phase → entries ≡ shelf.entries ++ e ∷ []
-    → found ≡ opened shelf.program (state_now shelf) t → shelf.entry_places ≤ places → shelf.opened_places ≤ places'
-    → IsMoved shelf (record shelf {
-      phases = slice_set shelf.phases t at;
-      entries = entries;
-      waits = waits;
-      opened = found;
-      entry_places = places;
-      opened_places = places';
-    }) t was now (record { state = with_task (state_now shelf) t now; entry = e })
-moved_alone shelf t was now e at entries waits found places places' k may moved is_task held held' handed stops grown opens more more' = record {
-  may = may;
-  moved = moved;
-  is_task = is_task;
-  tasks = refl;
-  program = refl;
-  workers = refl;
-  handed = handed;
-  marks = refl;
-  of_program = refl;
-  gone = gone_kept shelf t was now k is_task held held';
-  whole = k.whole;
-  engine = refl;
-  exchange = k.exchange_is;
-  phases = ap (slice_set shelf.phases t) stops;
-  memory = k.memory_is;
-  cells = refl;
-  notices = k.notices_are;
-  entries = grown;
-  statuses = k.legal.told;
-  opened = opens;
-  places = record { entries = more; statuses = omega arith; notices = omega arith; opened = more' };
-}
 
 -- the state after the longer history
 pub moved_state : {old new : Shelf} {t : ℕ} {was now : Task} {made : Moved} → IsMoved old new t was now made → state_now new ≡ made.state

@@ -93,16 +93,6 @@ pub record Polls (shelf : Shelf) (w : ℕ) (req : ReqNo) (rest : List ReqNo) (en
   pub entry_places : shelf.entry_places ≤ places
   pub notice_places : shelf.notice_places ≤ places'
 
-pub first_notice : (shelf : Shelf) (w : ℕ) (req : ReqNo) (rest : List ReqNo) (entries : List Entry) (places places' : ℕ)
-    → Polls shelf w req rest entries places places' → (state_now shelf).notices ≡ req ∷ rest
-first_notice shelf w req rest entries places places' d = sym d.kept.notices_are ∙ d.first
-
-pub polled_state : (shelf : Shelf) (w : ℕ) (req : ReqNo) (rest : List ReqNo) (entries : List Entry) (places places' : ℕ)
-    → Polls shelf w req rest entries places places' → final shelf.program entries ≡ without_first (state_now shelf) rest
-polled_state shelf w req rest entries places places' d =
-    ap (final shelf.program) d.grown
-    ∙ final-poll shelf.program shelf.entries w req rest (first_notice shelf w req rest entries places places' d)
-
 -- there is room for its entry
 pub poll_room : (shelf : Shelf) (req : ReqNo) (rest : List ReqNo) → KeepsState shelf → shelf.notices ≡ req ∷ rest
     → length shelf.entries < shelf.entry_places
@@ -110,70 +100,68 @@ poll_room shelf req rest k first =
     let notices = ap (λ (z : List ReqNo). length z) (sym k.notices_are ∙ first) in
     omega (arith, (short_now shelf k).entries, k.places.entries)
 
--- the insides after a poll are the state after it
-pub kept_polled : (shelf : Shelf) (w : ℕ) (req : ReqNo) (rest : List ReqNo) (entries : List Entry) (places places' : ℕ)
-    → Polls shelf w req rest entries places places' → KeepsState (shelf_polled shelf rest entries places places')
-kept_polled shelf w req rest entries places places' d =
-    let p : Program = shelf.program in
-    let k = d.kept in
-    let first = first_notice shelf w req rest entries places places' d in
-    let end : final p entries ≡ without_first (state_now shelf) rest = polled_state shelf w req rest entries places places' d in
-    record {
-      well = k.well;
-      legal = subst (λ (z : List Entry). IsLegal p shelf.workers z shelf.statuses) (sym d.grown)
-          (legal-poll p shelf.workers shelf.entries shelf.statuses w req rest k.legal d.exists first);
-      cells = k.cells;
-      memory_is = k.memory_is ∙ ap (λ (z : State). z.memory) (sym end);
-      phases_are = k.phases_are ∙ ap (λ (z : State). phases_of z.tasks) (sym end);
-      exchange_is = k.exchange_is ∙ ap (λ (z : State). z.exchange) (sym end);
-      notices_are = ap (λ (z : State). z.notices) (sym end);
-      opened_are = k.opened_are ∙ sym (last_opened-poll p shelf.entries w req) ∙ ap (last_opened p) (sym d.grown);
-      gone_is = k.gone_is ∙ ap (λ (z : State). let_go z.tasks) (sym end);
-      begun = k.begun;
-      of_program = k.of_program;
-      whole = k.whole;
-      engine_of = k.engine_of;
-      places = record {
-        entries = omega (arith, k.places.entries, d.entry_places);
-        statuses = k.places.statuses;
-        notices = omega (arith, k.places.notices, d.notice_places);
-        opened = k.places.opened;
-      };
-    }
+module _ {shelf : Shelf} {w : ℕ} {req : ReqNo} {rest : List ReqNo} {entries : List Entry} {places places' : ℕ}
+    (d : Polls shelf w req rest entries places places') where
+  first_notice : (state_now shelf).notices ≡ req ∷ rest
+  first_notice = sym d.kept.notices_are ∙ d.first
 
--- a poll changes nothing that a book counts
-pub book_polled : (shelf : Shelf) (w : ℕ) (req : ReqNo) (rest : List ReqNo) (entries : List Entry) (places places' : ℕ)
-    → IsBook shelf → Polls shelf w req rest entries places places' → IsBook (shelf_polled shelf rest entries places places')
-book_polled shelf w req rest entries places places' b d =
-    let end : final shelf.program entries ≡ without_first (state_now shelf) rest = polled_state shelf w req rest entries places places' d in
-    record {
-      kept = kept_polled shelf w req rest entries places places' d;
-      counted = subst (λ (z : State). IsCounted shelf.program (let_go z.tasks) shelf.ready.handed shelf.phases (bound_in z) shelf.engine.exchange
-          shelf.unreleased shelf.waits) (sym end) b.counted;
-      numbered = b.numbered;
-      binding = subst (λ (z : State). IsBinding shelf.program (bound_in z) shelf.engine.exchange shelf.marks shelf.bound shelf.incomplete) (sym end) b.binding;
-    }
+  polled_state : final shelf.program entries ≡ without_first (state_now shelf) rest
+  polled_state = ap (final shelf.program) d.grown ∙ final-poll shelf.program shelf.entries w req rest first_notice
 
--- what a caller sees of a poll
-pub takes_notice : (shelf : Shelf) (w : ℕ) (req : ReqNo) (rest : List ReqNo) (entries : List Entry) (places places' : ℕ) (l : Ledger)
-    → Polls shelf w req rest entries places places' → ledger_of shelf ≡ l
-    → TakesNotice l (ledger_of (shelf_polled shelf rest entries places places')) w req
-takes_notice shelf w req rest entries places places' l d view =
-    let p : Program = shelf.program in
-    let first = first_notice shelf w req rest entries places places' d in
-    let end : final p entries ≡ without_first (state_now shelf) rest = polled_state shelf w req rest entries places places' d in
-    let after = shelf_polled shelf rest entries places places' in
-    let kept = kept_polled shelf w req rest entries places places' d in
-    subst (λ (z : Ledger). TakesNotice z (ledger_of after) w req) view (record {
-      entry = d.grown;
-      first = first ∙ ap (λ (s : State). req ∷ s.notices) (sym end);
-      state = end ∙ ap (λ (m : Moved). m.state) (sym (poll-first (state_now shelf) w req rest first));
-      program = refl;
-      workers = refl;
-      statuses = refl;
-      handed = refl;
-      short = omega (arith, (short_now after kept).entries, (bounds_few p d.kept.well).0);
-    })
+  -- the insides after a poll are the state after it
+  kept_polled : KeepsState (shelf_polled shelf rest entries places places')
+  kept_polled =
+      let p : Program = shelf.program in
+      let k = d.kept in
+      let end : final p entries ≡ without_first (state_now shelf) rest = polled_state in
+      record {
+        well = k.well;
+        legal = subst (λ (z : List Entry). IsLegal p shelf.workers z shelf.statuses) (sym d.grown)
+            (legal-poll p shelf.workers shelf.entries shelf.statuses w req rest k.legal d.exists first_notice);
+        cells = k.cells;
+        memory_is = k.memory_is ∙ ap (λ (z : State). z.memory) (sym end);
+        phases_are = k.phases_are ∙ ap (λ (z : State). phases_of z.tasks) (sym end);
+        exchange_is = k.exchange_is ∙ ap (λ (z : State). z.exchange) (sym end);
+        notices_are = ap (λ (z : State). z.notices) (sym end);
+        opened_are = k.opened_are ∙ sym (last_opened-poll p shelf.entries w req) ∙ ap (last_opened p) (sym d.grown);
+        gone_is = k.gone_is ∙ ap (λ (z : State). let_go z.tasks) (sym end);
+        begun = k.begun;
+        of_program = k.of_program;
+        whole = k.whole;
+        engine_of = k.engine_of;
+        places = record {
+          entries = omega (arith, k.places.entries, d.entry_places);
+          statuses = k.places.statuses;
+          notices = omega (arith, k.places.notices, d.notice_places);
+          opened = k.places.opened;
+        };
+      }
+
+  -- a poll changes nothing that a book counts
+  pub book_polled : IsBook shelf → IsBook (shelf_polled shelf rest entries places places')
+  book_polled b = record {
+    kept = kept_polled;
+    counted = subst (λ (z : State). IsCounted shelf.program (let_go z.tasks) shelf.ready.handed shelf.phases (bound_in z) shelf.engine.exchange
+        shelf.unreleased shelf.waits) (sym polled_state) b.counted;
+    numbered = b.numbered;
+    binding = subst (λ (z : State). IsBinding shelf.program (bound_in z) shelf.engine.exchange shelf.marks shelf.bound shelf.incomplete)
+        (sym polled_state) b.binding;
+  }
+
+  -- what a caller sees of a poll
+  pub takes_notice : (l : Ledger) → ledger_of shelf ≡ l → TakesNotice l (ledger_of (shelf_polled shelf rest entries places places')) w req
+  takes_notice l view =
+      let after = shelf_polled shelf rest entries places places' in
+      subst (λ (z : Ledger). TakesNotice z (ledger_of after) w req) view (record {
+        entry = d.grown;
+        first = first_notice ∙ ap (λ (s : State). req ∷ s.notices) (sym polled_state);
+        state = polled_state ∙ ap (λ (m : Moved). m.state) (sym (poll-first (state_now shelf) w req rest first_notice));
+        program = refl;
+        workers = refl;
+        statuses = refl;
+        handed = refl;
+        short = omega (arith, (short_now after kept_polled).entries, (bounds_few shelf.program d.kept.well).0);
+      })
 
 -- whether a notice stands
 is_false : (result : Bool) → not result ≡ true → result ≡ false

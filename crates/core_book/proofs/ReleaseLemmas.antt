@@ -250,14 +250,14 @@ entry_is s es es' ss ss' more t from count are told is_from is_count grown =
     ∙ ap (λ (i : ℕ). es ++ entry.Release (task_no t) (length s.statuses) i ∷ []) same
 
 pub release_moved : {shelf : Shelf} {held : Record} {t from count : ℕ} {def : TaskDef} {ready : Readiness} {after : List ℤ}
-    {statuses : List Status} {entries : List Entry} {found : List ReqNo} (unreleased : ℕ) (waits : List ℕ) (entry_places status_places opened_places : ℕ)
+    {statuses : List Status} {entries : List Entry} {found : List ReqNo} {entry_places status_places opened_places : ℕ} (unreleased : ℕ) (waits : List ℕ)
     → KeepsState shelf → (r : Releases shelf held t def) → LetsGo shelf t def r.here.was ready after statuses entries from count found
     → shelf.entry_places ≤ entry_places → shelf.status_places ≤ status_places → shelf.opened_places ≤ opened_places
     → IsMoved shelf (shelf_released shelf t ready after statuses entries unreleased waits found entry_places status_places opened_places) t r.here.was
     (released_task shelf.program (state_now shelf).exchange t def r.here.was)
     (release_move shelf.program (state_now shelf) t def r.here.was)
 release_moved {shelf = shelf} {held = held} {t = t} {from = from} {count = count} {def = def} {statuses = statuses} {entries = entries}
-    unreleased waits entry_places status_places opened_places kept r goes more more' more'' =
+    unreleased waits kept r goes more more' more'' =
     let s : State = state_now shelf in
     let now : Task = released_task shelf.program s.exchange t def r.here.was in
     record {

@@ -1,5 +1,5 @@
 -- What the end of a wait owes, in terms of a book's fields.
-use Rattle.std.proofs.Common.{◌≡◌, ℕ, ◌+◌, ◌≤◌, true, false, List, length, slice_get, Some, None, Option}
+use Rattle.std.proofs.Common.{◌≡◌, ℕ, ◌+◌, ◌^◌, ◌<◌, ◌≤◌, true, false, List, length, slice_get, Some, None, Option}
 use Rattle.std.proofs.Common.{refl, sym, ap, ◌∙◌, subst, arith}
 use Rattle.std.specs.Prelude.{ℤ}
 use Rattle.rt_base.specs.declared.data.Span.{Span}
@@ -13,23 +13,25 @@ use Rattle.rt_base.specs.declared.data.Program.{Program}
 use Rattle.rt_base.specs.Operations.{named_requests}
 use Rattle.rt_base.specs.Exchange.{Exchange}
 use Rattle.rt_base.specs.MayMove.{AreComplete}
-use Rattle.task_local.specs.Waits.{taken, told, status_span_of, statuses_of, stored_by_handles, put_statuses}
+use Rattle.task_local.specs.Waits.{handles_of, taken, told, status_span_of, statuses_of, stored_by_handles, put_statuses}
 use Rattle.task_local.specs.Standing.{def_of, phase_before}
 use Rattle.task_local.specs.StandsFor.{Record}
 use Rattle.task_machine.specs.Laws.{is_blocking_call}
 use Rattle.wait_steps.specs.StatusSpans.{HasPlaces}
 use Rattle.core_book.specs.Kept.{Shelf, IsAwait, IsWait, KeepsState, is_posting_at, state_now}
 use Rattle.run_bounds.proofs.Tells.{statuses_each}
-use Rattle.run_bounds.proofs.Operations.{operation_is}
+use Rattle.run_bounds.proofs.Operations.{few_handles, operation_is}
 use Rattle.core_book.proofs.LeaveMoved.{leave_room}
 use Rattle.core_book.proofs.Within.{Within, enabled_in, stored_def}
 use Rattle.wait_steps.proofs.Naming.{places_of}
-use Rattle.core_book.proofs.WaitLemmas.{WaitIs, wait_is, wait_awaits}
+use Rattle.core_book.proofs.AwaitLemmas.{AwaitIs, wait_is}
+use Rattle.core_book.proofs.WaitLemmas.{wait_awaits}
 
--- a task that is in a wait
-pub record InWait (shelf : Shelf) (held : Record) (t k : ℕ) (def : TaskDef) : Type 0 where
+-- a task that is in a wait, and the handles that the code has read there
+pub record InWait (shelf : Shelf) (held : Record) (t k : ℕ) (def : TaskDef) (named : List Handle) : Type 0 where
   pub in_it : Within shelf held t k def
-  pub parts : WaitIs (slice_get def.body.items k)
+  pub parts : AwaitIs false (slice_get def.body.items k)
+  pub names : named ≡ parts.handles.items
 
 -- an operation that blocks and is no posting is a wait
 waits_in : (o : Option Op) → is_blocking_call o ≡ true → is_posting_at o ≡ false → IsWait o
@@ -56,23 +58,34 @@ pub is_await : {shelf : Shelf} {held : Record} {t k : ℕ} {def : TaskDef} → W
     → is_posting_at (slice_get (def_of held.program held.task).body.items k) ≡ false → IsAwait (slice_get def.body.items k)
 is_await {k = k} {def = def} w other = waits_some_time (slice_get def.body.items k) (is_wait w other)
 
-pub in_wait : {shelf : Shelf} {held : Record} {t k : ℕ} {def : TaskDef} → Within shelf held t k def
-    → is_posting_at (slice_get (def_of held.program held.task).body.items k) ≡ false → InWait shelf held t k def
-in_wait {k = k} {def = def} w other = record { in_it = w; parts = wait_is (slice_get def.body.items k) (is_wait w other) }
+pub in_wait : {shelf : Shelf} {held : Record} {t k : ℕ} {def : TaskDef} {named : List Handle} → Within shelf held t k def
+    → is_posting_at (slice_get (def_of held.program held.task).body.items k) ≡ false → handles_of 0 (slice_get def.body.items k) ≡ named
+    → InWait shelf held t k def named
+in_wait {k = k} {def = def} w other read =
+    let parts = wait_is (slice_get def.body.items k) (is_wait w other) in
+    record { in_it = w; parts = parts; names = sym read ∙ ap (handles_of 0) parts.is }
 
-wait_takes : (p : Program) (e : Exchange) (t k : ℕ) (def : TaskDef) (w : WaitIs (slice_get def.body.items k)) (copy : List ℤ)
+wait_takes : (p : Program) (e : Exchange) (t k : ℕ) (def : TaskDef) (w : AwaitIs false (slice_get def.body.items k)) (copy : List ℤ)
     → taken p e t def k copy
     ≡ put_statuses def w.status (statuses_of p e t w.handles.items) (stored_by_handles p e t def w.handles.items copy)
 unfolding taken told
 wait_takes p e t k def w copy = rw (w.is) refl
 
-module _ {shelf : Shelf} {held : Record} {t k : ℕ} {def : TaskDef} {named : List Handle} (kept : KeepsState shelf) (w : InWait shelf held t k def)
-    (same : named ≡ w.parts.handles.items) where
+module _ {shelf : Shelf} {held : Record} {t k : ℕ} {def : TaskDef} {named : List Handle} (kept : KeepsState shelf) (w : InWait shelf held t k def named) where
+  -- its handles are counted in 32 bits
+  pub wait_few : length named < 2 ^ 32
+  wait_few =
+      omega (
+        arith,
+        few_handles shelf.program t k def false w.parts.handles w.parts.status kept.well w.in_it.here.is_def w.parts.is,
+        ap (λ (z : List Handle). length z) w.names,
+      )
+
   -- what it names is complete, as the task may move
   pub wait_complete : (u : ℕ) → u ≡ t → AreComplete shelf.engine.program shelf.engine.exchange (named_requests u named)
   wait_complete u who =
       subst (λ (v : ℕ). AreComplete shelf.engine.program shelf.engine.exchange (named_requests v named)) (sym who)
-      (subst (λ (z : List Handle). AreComplete shelf.engine.program shelf.engine.exchange (named_requests t z)) (sym same)
+      (subst (λ (z : List Handle). AreComplete shelf.engine.program shelf.engine.exchange (named_requests t z)) (sym w.names)
       (subst (λ (q : Program). AreComplete q shelf.engine.exchange (named_requests t w.parts.handles.items)) (sym kept.engine_of)
       (subst (λ (e : Exchange). AreComplete shelf.program e (named_requests t w.parts.handles.items)) (sym kept.exchange_is)
       (subst (AreComplete shelf.program (state_now shelf).exchange) (wait_awaits t k def w.parts) (enabled_in w.in_it)))))
@@ -81,7 +94,7 @@ module _ {shelf : Shelf} {held : Record} {t k : ℕ} {def : TaskDef} {named : Li
       ≡ statuses_of shelf.program (state_now shelf).exchange t w.parts.handles.items
   statuses_here =
       ap (λ (q : Program). statuses_of q shelf.engine.exchange t named) kept.engine_of
-      ∙ ap (λ (e : Exchange). statuses_of shelf.program e t named) kept.exchange_is ∙ ap (statuses_of shelf.program (state_now shelf).exchange t) same
+      ∙ ap (λ (e : Exchange). statuses_of shelf.program e t named) kept.exchange_is ∙ ap (statuses_of shelf.program (state_now shelf).exchange t) w.names
 
   -- what it tells
   pub wait_tells : statuses_of shelf.engine.program shelf.engine.exchange t named ≡ told shelf.program (state_now shelf).exchange t def k
@@ -99,7 +112,7 @@ module _ {shelf : Shelf} {held : Record} {t k : ℕ} {def : TaskDef} {named : Li
       let whose : w.parts.status ≡ span = sym (ap status_span_of w.parts.is) ∙ read in
       let long : length w.parts.handles.items ≡ length told_now =
       sym (ap (λ (z : List Status). length z) tells ∙ statuses_each shelf.engine.program shelf.engine.exchange t named
-      ∙ ap (λ (z : List Handle). length z) same) in
+      ∙ ap (λ (z : List Handle). length z) w.names) in
       let places : HasPlaces def w.parts.status (length w.parts.handles.items) = places_of shelf.program def w.parts.status (length w.parts.handles.items)
       (operation_is shelf.program t k def (op.Await false w.parts.handles w.parts.status) kept.well w.in_it.here.is_def w.parts.is) in
       subst (λ (d : TaskDef). HasPlaces d span (length told_now)) (sym (stored_def held stored def copy w.in_it.here.held_def went))
@@ -117,7 +130,7 @@ module _ {shelf : Shelf} {held : Record} {t k : ℕ} {def : TaskDef} {named : Li
       ∙ ap (λ (x : Exchange). stored_by_handles p x u (def_of held.program held.task) named held.copy) kept.exchange_is
       ∙ ap (λ (v : ℕ). stored_by_handles p e v (def_of held.program held.task) named held.copy) who
       ∙ ap (λ (d : TaskDef). stored_by_handles p e t d named held.copy) w.in_it.here.held_def
-      ∙ ap (λ (z : List Handle). stored_by_handles p e t def z held.copy) same
+      ∙ ap (λ (z : List Handle). stored_by_handles p e t def z held.copy) w.names
       ∙ ap (stored_by_handles p e t def w.parts.handles.items) w.in_it.here.stands.1
 
   pub wait_end : (stored put_both after : Record) (u : ℕ) (span : Option Span) (told_now : List Status) (next : Phase) → u ≡ t

@@ -1,7 +1,7 @@
 //! The postings of a body, and what they do to the engine and the statuses.
 
 ghost use Rattle.std.specs.Prelude.{◌≡◌, ◌≤◌, ◌<◌, ◌+◌, ◌-◌, ◌^◌, ◌++◌, [], ◌∷◌, true, false, not, ◌&&◌, length, map, slice_get, slice_set, slice_index_or};
-ghost use Rattle.std.specs.Prelude.{vec_capacity, Some, IsSome, IfNone, IfSome, if◌then◌else◌, ℕ};
+ghost use Rattle.std.specs.Prelude.{vec_capacity, Some, IfNone, IfSome, if◌then◌else◌, ℕ};
 ghost use Rattle.std.specs.List.{list_any};
 ghost use Rattle.rt_base.specs.Matching.{same_request};
 ghost use Rattle.rt_base.specs.declared.data.Phase.TheVariants as phase;
@@ -11,16 +11,12 @@ ghost use Rattle.rt_base.specs.Exchange.{post, partner};
 ghost use Rattle.rt_base.specs.Completion.{is_posted, is_complete, completes_alone, request_status};
 ghost use Rattle.match_engine.specs.Requests.{IsSend, IsReceive};
 ghost use Rattle.task_local.specs.Local.{stop};
-ghost use Rattle.task_local.specs.Standing.{phase_before, def};
-ghost use Rattle.task_local.specs.Waits.{status_cells, put_statuses};
-ghost use Rattle.rt_base.specs.Spans.{span_len};
-ghost use Rattle.rt_base.specs.WellFormed.{WellFormed, IsDeclared};
+ghost use Rattle.task_local.specs.Standing.{phase_before};
 ghost use Rattle.core_book.specs.Kept.{PostsAs, is_posting_at, told_now};
 
 use crate::tasks::{phase_before, stop};
 use match_engine::Engine;
 use rt_base::{Cells, How, Op, Phase, Program, ReqNo, Span, Status, TaskDef};
-use task_local::TaskRec;
 use wait_steps::note;
 
 /// A posting of a body: how it is posted, its span, and where its status goes.
@@ -138,40 +134,5 @@ pub(crate) fn tell_status(
         1
     } else {
         0
-    }
-}
-
-// A status as cells: source, tag, count, error.
-fn cells_of_status(status: Status) -> [i64; 4]
-    ensures { result ≡ status_cells status }
-{
-    [
-        i64::from(status.source),
-        i64::from(status.tag),
-        i64::from(status.count),
-        i64::from(status.error),
-    ]
-}
-
-// Stores the status of a receive where it goes, if it goes anywhere.
-pub(crate) fn store_status(
-    rec: &mut TaskRec,
-    prog: &Program,
-    engine: &Engine,
-    req: ReqNo,
-    posting: Posting,
-)
-    requires well_formed { WellFormed prog.now }
-    requires same { prog.now ≡ rec.old.program }
-    requires of_program { prog.now ≡ engine.now.program }
-    requires complete { is_complete engine.now.program engine.now.exchange req ≡ true }
-    requires receive { IsSome posting.status → is_receive posting.how ≡ true }
-    requires declared { IfSome posting.status (λ span. IsDeclared (def rec.old).accesses.items span × (span_len span ≡ 4)) }
-    ensures { rec.new ≡ record rec.old {
-      copy = put_statuses (def rec.old) posting.status (told_now engine.now.program engine.now.exchange req posting.how) rec.old.copy;
-    } }
-{
-    if let Some(span) = posting.status {
-        rec.store(prog, span, &cells_of_status(engine.status(prog, req)));
     }
 }

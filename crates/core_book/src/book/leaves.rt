@@ -11,7 +11,7 @@ ghost use Rattle.core_book.specs.Ledger.{MakesMove};
 ghost use Rattle.core_book.specs.Kept.{PostsAs, is_posting_at};
 
 use crate::book::Book;
-use crate::posting::{Posting, store_status, tell_status};
+use crate::posting::{Posting, tell_status};
 use crate::room::{count_of, statuses_from};
 use crate::tasks::{phase_before, stop, task_of};
 use crate::waits::{handles_at, status_at};
@@ -47,7 +47,12 @@ impl Book {
         rec.store(prog, posting.span, self.engine.cells(req));
         let from = count_of(&self.statuses);
         let count = tell_status(&mut self.statuses, &self.engine, prog, req, posting.how);
-        store_status(rec, prog, &self.engine, req, posting);
+        store_statuses(
+            rec,
+            prog,
+            posting.status,
+            statuses_from(&self.statuses, from),
+        );
         phases[task.0 as usize] = stop(def, k + 1);
         rec.go(prog, phase_before(def, k + 1));
         note(

@@ -1,19 +1,20 @@
 -- The book after the end of a posting, and the record.
-use Rattle.std.proofs.Common.{◌≡◌, ◌∙◌, ◌+◌, ◌^◌, ◌<◌, ℕ, Some, ap, sym, length, slice_get, refl, arith}
+use Rattle.std.proofs.Common.{◌≡◌, ◌∙◌, ◌+◌, ◌^◌, ◌<◌, ℕ, List, Some, ap, sym, length, slice_get, refl, arith}
 use Rattle.std.specs.Prelude.{vec_capacity}
+use Rattle.std.proofs.lemmas.List.{length-append}
+use Rattle.rt_base.specs.declared.data.Status.{Status}
 use Rattle.rt_base.specs.declared.data.Phase.TheVariants as phase
 use Rattle.rt_base.specs.Operations.{nth_at, request}
-use Rattle.task_machine.specs.Machine.{leave_move}
-use Rattle.core_book.specs.Kept.{Shelf, state_now, told_now}
+use Rattle.core_book.specs.Kept.{told_now}
 use Rattle.core_book.proofs.Insides.{shelf_of}
 use Rattle.run_bounds.proofs.Few.{few_operations}
 use Rattle.core_book.proofs.BookLemmas.{status_count}
-use Rattle.core_book.proofs.Moved.{IsMoved, book_after, gone_more, makes_move}
+use Rattle.core_book.proofs.Moved.{book_after, gone_more, makes_move}
 use Rattle.core_book.proofs.Held.{entry_room, place_within}
 use Rattle.core_book.proofs.BookMoves.{left_as}
 use Rattle.core_book.proofs.Within.{enabled_in, within_body}
-use Rattle.core_book.proofs.LeaveLemmas.{Inside, inside, is_done, stores, received_fit, status_received, status_declared, told_here, leave_left}
-use Rattle.core_book.proofs.LeaveMoved.{Leaves, shelf_left, left_task, leave_moved, leave_room, leave_record, leave_stands}
+use Rattle.core_book.proofs.LeaveLemmas.{Inside, inside, is_done, stores, received_fit, status_places, told_here, leave_left}
+use Rattle.core_book.proofs.LeaveMoved.{Leaves, told_back, leave_moved, leave_room, leave_record, leave_stands}
 use Rattle.core_book.proofs.BoundAfter.{bound_kept}
 use Rattle.core_book.proofs.Figured.{kept_figures, found}
 use Rattle.book_counts.proofs.AfterMoves.{binding_kept, leave_counted}
@@ -75,18 +76,19 @@ tell_status-count-requires-clause-complete c =
     let at = (goal.at.tell_status-count-requires-clause-complete c).After-last-arg-1 in
     is_done c.self.invariant.kept (within at) (nth at c.last.result c.last.ensures)
 
-pub store_status-requires-clause-complete : goal.store_status-requires-clause-complete
-store_status-requires-clause-complete c =
-    let at = (goal.at.store_status-requires-clause-complete c).After-last-arg-1 in
-    is_done c.self.invariant.kept (within at) (nth at c.last.result c.last.ensures)
+pub statuses_from-requires : goal.statuses_from-requires
+statuses_from-requires c =
+    let from = c.count_of-from.ensures ∙ ap (λ (l : List Status). length l) c.deref.ensures.value in
+    let now = ap (λ (l : List Status). length l) (c.deref-2.ensures.value ∙ c.tell_status-count.ensures.items) in
+    let e = c.self.inside.engine in
+    omega (arith, length-append c.self.inside.statuses.items (told_now e.program e.exchange (request c.task-task.result.0 c.last.result) c.args.posting.how))
 
-pub store_status-requires-clause-receive : goal.store_status-requires-clause-receive
-store_status-requires-clause-receive c =
-    status_received c.self.invariant.kept (within (goal.at.store_status-requires-clause-receive c).After-last-arg-1)
-
-pub store_status-requires-clause-declared : goal.store_status-requires-clause-declared
-store_status-requires-clause-declared c =
-    status_declared c.self.invariant.kept (within (goal.at.store_status-requires-clause-declared c).After-last-arg-1) c.store.ensures
+pub store_statuses-requires-clause-declared : goal.store_statuses-requires-clause-declared
+store_statuses-requires-clause-declared c =
+    status_places c.self.invariant.kept (within (goal.at.store_statuses-requires-clause-declared c).After-last-arg-1) _ _ _
+    c.store.ensures
+    (told_back c.self.inside.statuses.items (c.count_of-from.ensures ∙ ap (λ (l : List Status). length l) c.deref.ensures.value)
+    (c.deref-2.ensures.value ∙ c.tell_status-count.ensures.items) c.statuses_from.ensures)
 
 -- the next operation has a number
 short : (c : After-last-arg-1) → c.args.k + 1 < 2 ^ 32
@@ -137,34 +139,15 @@ leaves c = record {
   entries_are = c.note.ensures.items;
 }
 
--- the insides after the leave
-abbrev later : (c : After-note) → Shelf
-later c = shelf_left (shelf_of c.self.inside) c.task-task.result.0 c.stop.result c.tell_status-count.new.statuses.items c.note.new.list.items
-    c.clear.new.self.items (vec_capacity c.note.new.list) (vec_capacity c.tell_status-count.new.statuses) (vec_capacity c.clear.new.self)
-
-moved : (c : After-note) → (i : Inside (shelf_of c.self.inside) c.args.rec.now c.task-task.result.0 c.args.k c.task_of-def.result.now c.args.posting)
-    → c.last.result ≡ nth_at c.task_of-def.result.now c.args.k
-    → IsMoved (shelf_of c.self.inside) (later c) c.task-task.result.0 i.in_it.here.was
-    (left_task (shelf_of c.self.inside) c.task-task.result.0 c.args.k c.task_of-def.result.now i.in_it.here.was)
-    (leave_move (shelf_of c.self.inside).program (state_now (shelf_of c.self.inside)) c.task-task.result.0 c.task_of-def.result.now i.in_it.here.was c.args.k)
-moved c i is_nth =
-    let s = shelf_of c.self.inside in
-    leave_moved s c.args.rec.now c.task-task.result.0 c.args.k c.count_of-from.result c.tell_status-count.result c.task_of-def.result.now _ c.stop.result
-    c.tell_status-count.new.statuses.items c.note.new.list.items c.clear.new.self.items (vec_capacity c.note.new.list)
-    (vec_capacity c.tell_status-count.new.statuses) (vec_capacity c.clear.new.self) c.self.invariant.kept i.in_it (leaves c)
-    (told_here c.self.invariant.kept i is_nth) c.stop.ensures
-    c.clear.ensures.items c.note.ensures.places c.tell_status-count.ensures.places (omega (arith, c.clear.ensures.capacity))
-
 pub invariant_of-self : goal.invariant_of-self
 invariant_of-self c =
     let s = shelf_of c.self.inside in
-    let held = c.args.rec.now in
-    let t = c.task-task.result.0 in
     let k = c.args.k in
-    let d = c.task_of-def.result.now in
     let at = (goal.at.invariant_of-self c).After-last-arg-1 in
     let i = within at in
-    let m = moved (goal.at.invariant_of-self c).After-note i (nth at c.last.result c.last.ensures) in
+    let m = leave_moved {opened_places = vec_capacity c.clear.new.self} c.self.invariant.kept i.in_it (leaves (goal.at.invariant_of-self c).After-note)
+    (told_here c.self.invariant.kept i (nth at c.last.result c.last.ensures)) c.stop.ensures c.clear.ensures.items c.note.ensures.places
+    c.tell_status-count.ensures.places (omega (arith, c.clear.ensures.capacity)) in
     let f = kept_figures {shelf = s} c.self.invariant in
     let inner = within_body i.in_it in
     let same = bound_kept m refl in
@@ -185,10 +168,14 @@ returns c =
     let d = c.task_of-def.result.now in
     let at = (goal.at.returns c).After-last-arg-1 in
     let i = within at in
-    let is_nth = nth at c.last.result c.last.ensures in
-    let m = moved (goal.at.returns c).After-note i is_nth in
-    let left = leave_left c.self.invariant.kept i is_nth c.cells.result.now
-    c.cells.ensures c.store.ensures c.store_status.ensures c.phase_before.ensures c.go.ensures in
+    let m = leave_moved {opened_places = vec_capacity c.clear.new.self} c.self.invariant.kept i.in_it (leaves (goal.at.returns c).After-note)
+    (told_here c.self.invariant.kept i (nth at c.last.result c.last.ensures)) c.stop.ensures c.clear.ensures.items c.note.ensures.places
+    c.tell_status-count.ensures.places (omega (arith, c.clear.ensures.capacity)) in
+    let left = leave_left c.self.invariant.kept i (nth at c.last.result c.last.ensures) c.cells.result.now
+    c.cells.ensures c.store.ensures
+    (told_back c.self.inside.statuses.items (c.count_of-from.ensures ∙ ap (λ (l : List Status). length l) c.deref.ensures.value)
+    (c.deref-2.ensures.value ∙ c.tell_status-count.ensures.items) c.statuses_from.ensures)
+    c.store_statuses.ensures c.phase_before.ensures c.go.ensures in
     makes_move c.self.invariant.kept m i.in_it.here.is_def i.in_it.here.who i.in_it.here.program
     (leave_record i.in_it left ∙ sym (left_as s held t d (phase.In k) i.in_it.here))
     (leave_stands s held c.go.new.self t k d i.in_it.here.was left) c.self.view_is

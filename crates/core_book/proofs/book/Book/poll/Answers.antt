@@ -23,11 +23,7 @@ pub note-requires : goal.note-requires
 note-requires c = poll_room (shelf_of c.self.inside) c.in-Some.req c.pop_front.new.self.items c.self.invariant.kept c.in-Some.ensures.items
 
 pub invariant_of-self : goal.invariant_of-self
-invariant_of-self c =
-    book_polled (shelf_of c.self.inside) c.args.poller c.in-Some.req c.pop_front.new.self.items c.note.new.list.items _ _ c.self.invariant
-    (polls (goal.at.invariant_of-self c).After-note)
+invariant_of-self c = book_polled (polls (goal.at.invariant_of-self c).After-note) c.self.invariant
 
 pub returns : goal.returns
-returns c =
-    takes_notice (shelf_of c.self.inside) c.args.poller c.in-Some.req c.pop_front.new.self.items c.note.new.list.items _ _ c.args.self.now
-    (polls (goal.at.returns c).After-note) c.self.view_is
+returns c = takes_notice (polls (goal.at.returns c).After-note) c.args.self.now c.self.view_is

@@ -1,24 +1,21 @@
 -- The book after a posting, and the record.
-use Rattle.std.proofs.Common.{◌≡◌, ◌∙◌, ◌<◌, ℕ, true, sym, ap, cond, List, [], ◌∷◌, ◌++◌, length, slice_set, refl, subst, arith}
-use Rattle.std.specs.Prelude.{vec_capacity, ◌==◌, IfSome}
-use Rattle.std.specs.VecDeque.{deque_capacity}
+use Rattle.std.proofs.Common.{◌≡◌, ◌∙◌, ◌<◌, ℕ, true, sym, ap, cond, List, length, slice_set, refl, subst, arith}
+use Rattle.std.specs.Prelude.{vec_capacity, IfSome}
 use Rattle.rt_base.specs.declared.data.ReqNo.{ReqNo}
 use Rattle.rt_base.specs.declared.data.Phase.TheVariants as phase
 use Rattle.rt_base.specs.declared.data.Program.{Program}
 use Rattle.rt_base.specs.Operations.{blocks, nth_at, request}
 use Rattle.rt_base.specs.Completion.{is_complete}
-use Rattle.task_machine.specs.Machine.{posted_task}
 use Rattle.book_counts.specs.declared.telling.Told.{Told}
-use Rattle.core_book.specs.Kept.{Shelf}
 use Rattle.wait_steps.specs.MarkedRows.{is_marked}
 use Rattle.book_counts.specs.Counted.{completed_now, expects_now, holds_now, one_less_for, told_requests}
 use Rattle.core_book.proofs.Insides.{shelf_of}
 use Rattle.run_bounds.proofs.Few.{few_operations}
-use Rattle.core_book.proofs.Moved.{IsMoved, book_after, gone_more, makes_move}
+use Rattle.core_book.proofs.Moved.{book_after, gone_more, makes_move}
 use Rattle.core_book.proofs.Held.{same_program, phases_counted, entry_room, place_within}
 use Rattle.core_book.proofs.BookMoves.{left_as}
 use Rattle.core_book.proofs.CallLemmas.{Calls, calls, call_within, call_sends, call_receives, call_is_new, call_follows, call_may, post_opens, posting_op}
-use Rattle.core_book.proofs.CallMoved.{Answered, call_left, call_moved, call_moves, call_opens, call_pending, call_stands, post_room, posted_bound}
+use Rattle.core_book.proofs.CallMoved.{Answered, call_left, call_moved, call_opens, call_pending, call_stands, post_room, posted_bound}
 use Rattle.core_book.proofs.BoundAfter.{bound_kept}
 use Rattle.core_book.proofs.Figured.{kept_figures, found}
 use Rattle.core_book.proofs.CountCalls.{completes, number_is, seen_as}
@@ -194,39 +191,6 @@ tell-requires c = record {
       post_room c.self.invariant.kept call a c.self.invariant.binding.marked (tells told_here);
 }
 
--- the insides after the call
-abbrev later : (c : After-note) → Shelf
-later c = record (shelf_of c.self.inside) {
-  engine = c.post-partner.new.engine;
-  phases = slice_set c.self.inside.phases.items c.task-task.result.0 c.phase_after.result;
-  notices = c.tell.new.notices.items;
-  entries = c.note.new.list.items;
-  waits = c.set.new.self;
-  posted = c.add.new.self;
-  incomplete = c.lower_bound.new.incomplete;
-  opened = c.note_some.new.list.items;
-  entry_places = vec_capacity c.note.new.list;
-  notice_places = deque_capacity c.tell.new.notices;
-  opened_places = vec_capacity c.note_some.new.list;
-}
-
-moved : (c : After-note) → told_requests (λ (found : Told). true) c.who_is_told-told.result
-    ≡ completed_now c.self.inside.program.value (expects_now c.self.inside.program.value c.self.inside.phases.items c.self.inside.marks) c.post-partner.result
-    → (call : Calls (shelf_of c.self.inside) c.args.rec.now c.task-task.result.0 c.args.k c.task_of-def.result.now c.args.posting)
-    → Answered (shelf_of c.self.inside) c.args.rec.now c.task-task.result.0 c.args.k c.next.result c.pending-pending.result
-    c.task_of-def.result.now c.args.posting c.args.cells.items c.post-partner.new.engine c.post-partner.result
-    → IsMoved (shelf_of c.self.inside) (later c) c.task-task.result.0 call.here.was
-    (posted_task c.task_of-def.result.now c.args.k (blocks c.args.posting.how) call.here.was) (call_moves call)
-moved c is_told call a =
-    let s = shelf_of c.self.inside in
-    let listed = call_opens c.self.invariant.kept call a c.waits_after-awaited.ensures (c.note_some.ensures.items
-    ∙ ap (λ (z : List ReqNo). z ++ cond (c.waits_after-awaited.result == 0) [] (request c.task-task.result.0 c.next.result ∷ [])) c.clear.ensures.items) in
-    call_moved c.self.invariant.kept call a c.phase_after.result c.tell.new.notices.items c.note.new.list.items c.set.new.self c.add.new.self
-    c.lower_bound.new.incomplete c.note_some.new.list.items (vec_capacity c.note.new.list) (deque_capacity c.tell.new.notices)
-    (vec_capacity c.note_some.new.list) c.self.invariant.binding.marked (c.tell.ensures.items ∙ ap (λ (z : List ReqNo). s.notices ++ z) is_told)
-    c.phase_after.ensures c.note.ensures.items listed c.note.ensures.places c.tell.ensures.places
-    (omega (arith, c.clear.ensures.capacity, c.note_some.ensures.places))
-
 pub invariant_of-self : goal.invariant_of-self
 invariant_of-self c =
     let s = shelf_of c.self.inside in
@@ -234,7 +198,11 @@ invariant_of-self c =
     let call = at_call (goal.at.invariant_of-self c).After-next-arg-1 in
     let a = answered (goal.at.invariant_of-self c).After-note (nth (goal.at.invariant_of-self c).After-post-arg-1 call) in
     let same = same_program s c.args.self.now c.args.prog.now c.self.view_is c.requires.same in
-    let m = moved (goal.at.invariant_of-self c).After-note (tells (goal.at.invariant_of-self c).After-who_is_told-told) call a in
+    let m = call_moved c.self.invariant.kept call a {opened_places = vec_capacity c.note_some.new.list} c.set.new.self c.add.new.self
+    c.lower_bound.new.incomplete c.self.invariant.binding.marked c.tell.ensures.items (tells (goal.at.invariant_of-self c).After-who_is_told-told)
+    c.phase_after.ensures c.note.ensures.items
+    (call_opens c.self.invariant.kept call a c.waits_after-awaited.ensures c.clear.ensures.items c.note_some.ensures.items)
+    c.note.ensures.places c.tell.ensures.places (omega (arith, c.clear.ensures.capacity, c.note_some.ensures.places)) in
     let as_before = bound_kept m (posted_bound c.task_of-def.result.now c.args.k (blocks c.args.posting.how) call.here.was) in
     let f = kept_figures {shelf = s} c.self.invariant in
     let made = completes c.self.invariant.kept a in
@@ -257,7 +225,11 @@ returns-clause-moves c =
     let s = shelf_of c.self.inside in
     let call = at_call (goal.at.returns-clause-moves c).After-next-arg-1 in
     let a = answered (goal.at.returns-clause-moves c).After-note (nth (goal.at.returns-clause-moves c).After-post-arg-1 call) in
-    let m = moved (goal.at.returns-clause-moves c).After-note (tells (goal.at.returns-clause-moves c).After-who_is_told-told) call a in
+    let m = call_moved c.self.invariant.kept call a {opened_places = vec_capacity c.note_some.new.list} c.set.new.self c.add.new.self
+    c.lower_bound.new.incomplete c.self.invariant.binding.marked c.tell.ensures.items (tells (goal.at.returns-clause-moves c).After-who_is_told-told)
+    c.phase_after.ensures c.note.ensures.items
+    (call_opens c.self.invariant.kept call a c.waits_after-awaited.ensures c.clear.ensures.items c.note_some.ensures.items)
+    c.note.ensures.places c.tell.ensures.places (omega (arith, c.clear.ensures.capacity, c.note_some.ensures.places)) in
     makes_move c.self.invariant.kept m call.here.is_def call.here.who call.here.program
     (call_left call c.place_after.ensures c.go.ensures
     ∙ sym (left_as s c.args.rec.now c.task-task.result.0 c.task_of-def.result.now (phase.At c.args.k) call.here))

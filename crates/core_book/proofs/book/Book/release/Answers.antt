@@ -4,19 +4,17 @@ use Rattle.std.specs.Prelude.{ℤ, vec_capacity}
 use Rattle.std.proofs.lemmas.Option.{slice_get_within}
 use Rattle.rt_base.specs.declared.data.Phase.TheVariants as phase
 use Rattle.rt_base.specs.declared.data.Status.{Status}
-use Rattle.task_machine.specs.Machine.{release_move}
-use Rattle.core_book.specs.Kept.{state_now}
 use Rattle.core_book.proofs.Insides.{shelf_of}
 use Rattle.core_book.proofs.BookLemmas.{status_count}
 use Rattle.core_book.proofs.BookMoves.{left_as}
-use Rattle.core_book.proofs.Moved.{IsMoved, book_after, gone_more, makes_move, still_held}
+use Rattle.core_book.proofs.Moved.{book_after, gone_more, makes_move, still_held}
 use Rattle.core_book.proofs.Held.{entry_room, handed_of, place_within, same_program}
 use Rattle.core_book.proofs.BoundAfter.{bound_kept}
 use Rattle.core_book.proofs.Figured.{kept_figures, found}
 use Rattle.book_counts.proofs.AfterMoves.{binding_kept, release_counted, some_unreleased}
 use Rattle.book_counts.proofs.Numbers.{numbered_next}
 use Rattle.core_book.proofs.ReleaseLemmas.{Releases, LetsGo, copy_now, releases, late_received, late_told_room, late_count, late_stored, late_tells}
-use Rattle.core_book.proofs.ReleaseLemmas.{release_left, release_stands, released_task, saved_now, shelf_released, release_moved, whole_back}
+use Rattle.core_book.proofs.ReleaseLemmas.{release_left, release_stands, saved_now, release_moved, whole_back}
 use Rattle.core_book.proofs.book.Book.release.Goals as goal
 use Rattle.core_book.proofs.book.Book.release.Goals.{After-note, After-task_of}
 
@@ -130,22 +128,12 @@ goes c r =
       none = c.clear.ensures.items;
     }
 
-moved : (c : After-note) → (r : Releases (shelf_of c.self.inside) c.args.rec.now c.task-task.result.0 c.task_of.result.now)
-    → IsMoved (shelf_of c.self.inside) (shelf_released (shelf_of c.self.inside) c.task-task.result.0 c.release.new.self
-    (take c.self.inside.memory.len (c.save.new.memory ++ drop (length c.save.new.memory) c.self.inside.memory.items)) c.take_bound.new.statuses.items
-    c.note.new.list.items (c.self.inside.unreleased - 1) c.set.new.self c.clear.new.self.items (vec_capacity c.note.new.list)
-    (vec_capacity c.take_bound.new.statuses) (vec_capacity c.clear.new.self)) c.task-task.result.0 r.here.was
-    (released_task (shelf_of c.self.inside).program (state_now (shelf_of c.self.inside)).exchange c.task-task.result.0 c.task_of.result.now r.here.was)
-    (release_move (shelf_of c.self.inside).program (state_now (shelf_of c.self.inside)) c.task-task.result.0 c.task_of.result.now r.here.was)
-moved c r =
-    release_moved (c.self.inside.unreleased - 1) c.set.new.self (vec_capacity c.note.new.list) (vec_capacity c.take_bound.new.statuses)
-    (vec_capacity c.clear.new.self) c.self.invariant.kept r (goes c r) c.note.ensures.places c.take_bound.ensures.places
-    (omega (arith, c.clear.ensures.capacity))
-
 pub invariant_of-self : goal.invariant_of-self
 invariant_of-self c =
     let r = known (goal.at.invariant_of-self c).After-task_of in
-    let m = moved (goal.at.invariant_of-self c).After-note r in
+    let m = release_moved {status_places = vec_capacity c.take_bound.new.statuses} {opened_places = vec_capacity c.clear.new.self}
+    (c.self.inside.unreleased - 1) c.set.new.self c.self.invariant.kept r (goes (goal.at.invariant_of-self c).After-note r) c.note.ensures.places
+    c.take_bound.ensures.places (omega (arith, c.clear.ensures.capacity)) in
     let f = kept_figures {shelf = shelf_of c.self.inside} c.self.invariant in
     let same = bound_kept m refl in
     record {
@@ -159,7 +147,10 @@ pub returns : goal.returns
 returns c =
     let noted = (goal.at.returns c).After-note in
     let r = known (goal.at.returns c).After-task_of in
-    makes_move c.self.invariant.kept (moved noted r) r.here.is_def r.here.who r.here.program
+    let m = release_moved {status_places = vec_capacity c.take_bound.new.statuses} {opened_places = vec_capacity c.clear.new.self}
+    (c.self.inside.unreleased - 1) c.set.new.self c.self.invariant.kept r (goes noted r) c.note.ensures.places c.take_bound.ensures.places
+    (omega (arith, c.clear.ensures.capacity)) in
+    makes_move c.self.invariant.kept m r.here.is_def r.here.who r.here.program
     (release_left r (stored noted r) c.go.ensures
     ∙ sym (left_as (shelf_of c.self.inside) c.args.rec.now c.task-task.result.0 c.task_of.result.now phase.Returned r.here))
     (release_stands r (stored noted r) c.go.ensures) c.self.view_is

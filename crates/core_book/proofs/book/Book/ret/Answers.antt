@@ -32,7 +32,7 @@ here c = held_as (shelf_of c.self.inside) c.args.rec.now c.task-task.result.0 ph
 pub note-requires : goal.note-requires
 note-requires c =
     let h = here (goal.at.note-requires c).After-task-task in
-    entry_room (shelf_of c.self.inside) c.task-task.result.0 c.self.invariant.kept (may_return (shelf_of c.self.inside) c.args.rec.now _ _ h)
+    entry_room (shelf_of c.self.inside) c.task-task.result.0 c.self.invariant.kept (may_return h)
 
 pub at-open-requires : goal.at-open-requires
 at-open-requires c =
@@ -50,15 +50,10 @@ set-requires c =
 
 pub invariant_of-self : goal.invariant_of-self
 invariant_of-self c =
-    let s = shelf_of c.self.inside in
-    let held = c.args.rec.now in
-    let t = c.task-task.result.0 in
-    let at = (goal.at.invariant_of-self c).After-task-task in
-    let d = (stands at).def in
-    let h = here at in
-    let m = ret_moved s held t d c.note.new.list.items c.set.new.self c.clear.new.self.items _ (vec_capacity c.clear.new.self)
-    c.self.invariant.kept h c.note.ensures.items c.clear.ensures.items c.note.ensures.places (omega (arith, c.clear.ensures.capacity)) in
-    let f = kept_figures {shelf = s} c.self.invariant in
+    let h = here (goal.at.invariant_of-self c).After-task-task in
+    let m = ret_moved {places' = vec_capacity c.clear.new.self} c.set.new.self c.self.invariant.kept h c.note.ensures.items c.clear.ensures.items
+    c.note.ensures.places (omega (arith, c.clear.ensures.capacity)) in
+    let f = kept_figures {shelf = shelf_of c.self.inside} c.self.invariant in
     let same = bound_kept m refl in
     record {
       kept = book_after c.self.invariant.kept m;
@@ -75,7 +70,7 @@ returns c =
     let at = (goal.at.returns c).After-task-task in
     let d = (stands at).def in
     let h = here at in
-    let m = ret_moved s held t d c.note.new.list.items c.set.new.self c.clear.new.self.items _ (vec_capacity c.clear.new.self)
-    c.self.invariant.kept h c.note.ensures.items c.clear.ensures.items c.note.ensures.places (omega (arith, c.clear.ensures.capacity)) in
+    let m = ret_moved {places' = vec_capacity c.clear.new.self} c.set.new.self c.self.invariant.kept h c.note.ensures.items c.clear.ensures.items
+    c.note.ensures.places (omega (arith, c.clear.ensures.capacity)) in
     makes_move c.self.invariant.kept m h.is_def h.who h.program (c.go.ensures ∙ sym (left_as s held t d phase.Ended h))
     (subst (λ (z : Record). StandsAs d z.phase z.copy (returned_task h.was)) (sym c.go.ensures) (refl, h.stands.1)) c.self.view_is

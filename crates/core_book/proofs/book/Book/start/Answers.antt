@@ -5,12 +5,12 @@ use Rattle.rt_base.specs.MayMove.{MayMove}
 use Rattle.task_machine.specs.Machine.{start_move}
 use Rattle.std.specs.Prelude.{vec_capacity}
 use Rattle.core_book.specs.Ledger.{Ledger}
-use Rattle.core_book.specs.Kept.{Shelf, state_now}
+use Rattle.core_book.specs.Kept.{state_now}
 use Rattle.run_bounds.proofs.Few.{few_operations}
 use Rattle.core_book.proofs.Insides.{shelf_of}
 use Rattle.core_book.proofs.Moved.{IsMoved, book_after, gone_more, makes_move}
 use Rattle.core_book.proofs.Held.{Held, held_at, may_move, entry_room, same_program}
-use Rattle.core_book.proofs.BookMoves.{left_as, shelf_after, started_task, start_moved, start_left, start_stands}
+use Rattle.core_book.proofs.BookMoves.{left_as, shelf_alone, started_task, start_moved, start_left, start_stands}
 use Rattle.core_book.proofs.BoundAfter.{bound_kept}
 use Rattle.core_book.proofs.Figured.{kept_figures, found}
 use Rattle.book_counts.proofs.AfterMoves.{binding_kept, start_counted}
@@ -35,19 +35,16 @@ mine c =
     ap (λ (z : Ledger). slice_get z.handed c.task-task.result.0) c.self.view_is ∙ ap (slice_get c.args.self.now.handed) c.task-task.ensures ∙ c.requires.handed
 
 -- the insides after the start
-abbrev later : (c : After-note) → Shelf
-later c = shelf_after (shelf_of c.self.inside) c.task-task.result.0 c.stop.result c.note.new.list.items c.self.inside.waits
-    c.clear.new.self.items (vec_capacity c.note.new.list) (vec_capacity c.clear.new.self)
-
 moved : (c : After-note) → (h : Held (shelf_of c.self.inside) c.args.rec.now c.task-task.result.0 c.task_of-def.result.now phase.Waiting)
     → MayMove (shelf_of c.self.inside).program (state_now (shelf_of c.self.inside)) c.task-task.result.0
     → slice_get (shelf_of c.self.inside).ready.handed c.task-task.result.0 ≡ Some true
-    → IsMoved (shelf_of c.self.inside) (later c) c.task-task.result.0 h.was (started_task (shelf_of c.self.inside) c.task_of-def.result.now h.was)
+    → IsMoved (shelf_of c.self.inside) (shelf_alone (shelf_of c.self.inside) c.task-task.result.0 c.stop.result c.note.new.list.items
+    c.clear.new.self.items (vec_capacity c.note.new.list) (vec_capacity c.clear.new.self) c.self.inside.waits c.self.inside.marks c.self.inside.bound
+    c.self.inside.incomplete) c.task-task.result.0 h.was (started_task (shelf_of c.self.inside) c.task_of-def.result.now h.was)
     (start_move (shelf_of c.self.inside).program (state_now (shelf_of c.self.inside)) c.task-task.result.0 c.task_of-def.result.now h.was)
 moved c h may handed =
-    start_moved (shelf_of c.self.inside) c.args.rec.now c.task-task.result.0 c.task_of-def.result.now c.stop.result c.note.new.list.items
-    c.clear.new.self.items (vec_capacity c.note.new.list) (vec_capacity c.clear.new.self) c.self.invariant.kept h may handed
-    c.stop.ensures c.note.ensures.items c.clear.ensures.items c.note.ensures.places (omega (arith, c.clear.ensures.capacity))
+    start_moved c.self.invariant.kept h may handed c.stop.ensures c.note.ensures.items c.clear.ensures.items c.note.ensures.places
+    (omega (arith, c.clear.ensures.capacity))
 
 pub stop-requires-clause-few : goal.stop-requires-clause-few
 stop-requires-clause-few c = few_operations c.args.prog.now c.task-task.result.0 c.task_of-def.result.now c.requires.well_formed c.task_of-def.ensures
@@ -59,8 +56,6 @@ note-requires c =
 pub invariant_of-self : goal.invariant_of-self
 invariant_of-self c =
     let s = shelf_of c.self.inside in
-    let t = c.task-task.result.0 in
-    let d = c.task_of-def.result.now in
     let at = (goal.at.invariant_of-self c).After-task_of-def in
     let h = here at in
     let m = moved (goal.at.invariant_of-self c).After-note h (may at) (mine at) in
@@ -81,7 +76,7 @@ returns c =
     let at = (goal.at.returns c).After-task_of-def in
     let h = here at in
     let m = moved (goal.at.returns c).After-note h (may at) (mine at) in
-    let left = start_left s c.args.rec.now c.load.new.self c.go.new.self t d c.phase_before.result c.deref.result.now c.args.prog.now c.self.invariant.kept h
-    (same_program s c.args.self.now c.args.prog.now c.self.view_is c.requires.same) c.deref.ensures.value c.load.ensures c.phase_before.ensures c.go.ensures in
+    let left = start_left c.self.invariant.kept h (same_program s c.args.self.now c.args.prog.now c.self.view_is c.requires.same) c.deref.ensures.value
+    c.load.ensures c.phase_before.ensures c.go.ensures in
     makes_move c.self.invariant.kept m h.is_def h.who h.program (left ∙ sym (left_as s c.args.rec.now t d phase.Waiting h))
     (start_stands s c.args.rec.now c.go.new.self d h.was left) c.self.view_is
