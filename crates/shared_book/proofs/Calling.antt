@@ -1,7 +1,7 @@
 -- What the call of an operation leaves: which holder issues what it opened, what it is answered, and the task after it.
-use Rattle.std.proofs.Common.{◌≡◌, ◌≢◌, ◌⊎◌, ℕ, zero, suc, ◌+◌, ◌<◌, ◌≤◌, Bool, true, false, List, [], ◌∷◌, ◌++◌, length, drop, slice_get, Option, Some, None}
+use Rattle.std.proofs.Common.{◌≡◌, ℕ, zero, suc, ◌+◌, ◌≤◌, Bool, true, false, List, [], ◌∷◌, ◌++◌, length, drop, slice_get, Option, Some, None}
 use Rattle.std.proofs.Common.{refl, sym, ap, ◌∙◌, subst, inl, inr, arith, ℤ, lt-ltb}
-use Rattle.std.specs.Prelude.{nat_lt, if◌then◌else◌, unwrap_or, IsFalse, IsSome}
+use Rattle.std.specs.Prelude.{nat_lt, if◌then◌else◌, unwrap_or, IsSome}
 use Rattle.std.proofs.lemmas.Bool.{false≢true, cases_Bool, ltb-true}
 use Rattle.rt_base.specs.declared.data.ReqNo.{ReqNo}
 use Rattle.rt_base.specs.declared.data.Phase.{Phase}
@@ -10,14 +10,11 @@ use Rattle.rt_base.specs.declared.data.Op.{Op}
 use Rattle.rt_base.specs.declared.data.Op.TheVariants as op
 use Rattle.rt_base.specs.declared.data.Entry.{Entry}
 use Rattle.rt_base.specs.declared.data.Entry.TheVariants as entry
-use Rattle.rt_base.specs.declared.data.How.{How}
 use Rattle.rt_base.specs.declared.data.TaskDef.{TaskDef}
 use Rattle.rt_base.specs.declared.data.Program.{Program}
-use Rattle.rt_base.specs.Operations.{task_no, blocks, is_local}
+use Rattle.rt_base.specs.Operations.{blocks}
 use Rattle.rt_base.specs.State.{State, Task}
 use Rattle.rt_base.specs.WellFormed.{WellFormed}
-use Rattle.task_local.specs.declared.standing.At.{At}
-use Rattle.task_local.specs.declared.standing.At.TheVariants as at
 use Rattle.task_local.specs.Local.{stop_at, stop}
 use Rattle.task_local.specs.StandsFor.{Record, StandsFor, StandsAs}
 use Rattle.task_local.specs.Standing.{def, def_of, no_task, phase_before, at_phase, at_operation, IsAtCall, IsCall}
@@ -31,22 +28,20 @@ use Rattle.tidy_runs.proofs.Bodies.{own_in}
 use Rattle.tidy_runs.proofs.OpenedOnce.{opened-row}
 use Rattle.core_book.specs.Ledger.{phase_after_call, LeavesPending}
 use Rattle.pass_table.specs.Passes.{TableId, PassIs}
-use Rattle.meetings.specs.Meetings.{times}
 use Rattle.meet_hall.specs.Holders.{HolderIs, TicketIs}
 use Rattle.shared_lists.specs.Deeds.{moves, state_seen, opened_seen}
 use Rattle.shared_lists.specs.Said.{IsLiveTask}
 use Rattle.listed_book.specs.Listed.{BookIs, MovesTask, state_in}
-use Rattle.turn_table.specs.declared.hands.Door.{Door}
 use Rattle.turn_table.specs.declared.hands.Door.TheVariants.{Pause, Events}
 use Rattle.shared_tasks.specs.Values.{LiveIs}
 use Rattle.shared_tasks.specs.Places.{meeting_of, requests_of, IsHolder, places_of}
 use Rattle.shared_tasks.specs.Keeping.{Issued, IsLive, bound_of}
 use Rattle.shared_tasks.specs.Owing.{place_in, issuing_all, AreNew}
 use Rattle.shared_tasks.proofs.Opening.{new_at_pause, new_at_events, place_of_one, places-append}
-use Rattle.shared_book.specs.declared.moved.Moved.{Moved}
 use Rattle.shared_book.specs.declared.moved.Moved.TheVariants.{Done, Pending}
 use Rattle.shared_book.specs.Kept.{HasPlaces}
-use Rattle.shared_book.specs.Answers.{MovesOn, Calls, state_at, Pauses, IsAnswered, Issues, is_inside, answered}
+use Rattle.shared_book.specs.Answers.{MovesOn, Calls, state_at, Pauses, IsAnswered}
+use Rattle.shared_book.specs.Computed.{is_inside, answered}
 use Rattle.shared_book.proofs.Moves.{at_step, moves_for, opened_for, live_for, opens_of, runs_before, task_of_record, bound_was, bound_now, left_from}
 use Rattle.shared_book.proofs.Moves.{same_task_left, live_of, issued_before, issued_after}
 
@@ -153,7 +148,7 @@ goes_in : (d : TaskDef) (k j : ℕ) (b : Bool) → (if b then phase.In k else ph
 goes_in d k j true is = refl
 goes_in d k j false is = absurd (before_not_in d (k + 1) j (nat_lt (k + 1) (length d.body.items)) is)
 
-goes_on : (d : TaskDef) (k : ℕ) (b : Bool) → (((j : ℕ) → (if b then phase.In k else phase_before d (k + 1)) ≡ phase.In j → ⊥))
+pub goes_on : (d : TaskDef) (k : ℕ) (b : Bool) → (((j : ℕ) → (if b then phase.In k else phase_before d (k + 1)) ≡ phase.In j → ⊥))
     → (if b then phase.In k else phase_before d (k + 1)) ≡ phase_before d (k + 1)
 goes_on d k true none = absurd (none k refl)
 goes_on d k false none = refl
@@ -235,7 +230,7 @@ issuing_held : (p : Program) (site : TableId) (t meeting : ℕ) (holder : Holder
     → IsHolder p site t meeting (issuing_all holder reqs)
 issuing_held p site t meeting holder reqs h = record { hall = h.hall; meeting_is = h.meeting_is; places = h.places; none_left = h.none_left }
 
-issued_at_call : (p : Program) (live : LiveIs) (k : ℕ) → live.rec.phase ≡ phase.At k
+pub issued_at_call : (p : Program) (live : LiveIs) (k : ℕ) → live.rec.phase ≡ phase.At k
     → Issued live.rec.phase live.pause.issued live.events.issued (bound_of p live.pass live.rec.task)
     → (live.pause.issued ≡ []) × (live.events.issued ≡ bound_of p live.pass live.rec.task)
 issued_at_call p live k at issued =

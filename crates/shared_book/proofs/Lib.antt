@@ -1,5 +1,6 @@
 pub mod Moves
 pub mod Calling
+pub mod Going
 pub mod Sections
 pub mod Pairing
 pub mod Issuing

@@ -1,9 +1,8 @@
 -- What a task's move leaves: its started task with its holders, from what the book's call says.
-use Rattle.std.proofs.Common.{◌≡◌, ◌≢◌, ◌⊎◌, ℕ, zero, suc, ◌+◌, ◌<◌, ◌≤◌, Bool, true, false, List, [], ◌∷◌, ◌++◌, length, drop, slice_get, Option, Some, None}
-use Rattle.std.proofs.Common.{option_map, refl, sym, ap, ◌∙◌, subst, inl, inr, arith, ℤ}
+use Rattle.std.proofs.Common.{◌≡◌, ℕ, ◌+◌, Bool, true, false, List, [], ◌∷◌, ◌++◌, length, Option, Some}
+use Rattle.std.proofs.Common.{option_map, refl, sym, ap, ◌∙◌, subst, inl, ℤ}
 use Rattle.std.specs.Prelude.{nat_lt, if◌then◌else◌}
 use Rattle.std.proofs.lemmas.List.{append-nil}
-use Rattle.std.proofs.lemmas.Bool.{false≢true, cases_Bool}
 use Rattle.rt_base.specs.declared.data.ReqNo.{ReqNo}
 use Rattle.rt_base.specs.declared.data.Phase.{Phase}
 use Rattle.rt_base.specs.declared.data.Phase.TheVariants as phase
@@ -28,9 +27,9 @@ use Rattle.pass_table.specs.Passes.{TableId, PassIs, times}
 use Rattle.meet_hall.specs.Holders.{HolderIs}
 use Rattle.shared_lists.specs.Deeds.{moves, state_seen, opened_seen}
 use Rattle.shared_lists.specs.Sound.{IsSound}
-use Rattle.shared_lists.specs.Said.{IsStill, Does, IsLiveTask, IsFreshTask}
+use Rattle.shared_lists.specs.Said.{IsStill, Does, IsLiveTask}
 use Rattle.shared_lists.proofs.Fronts.{sound_fronts, sound_runs}
-use Rattle.shared_lists.proofs.Since.{still_since, stands_on}
+use Rattle.shared_lists.proofs.Since.{still_since}
 use Rattle.listed_book.specs.Listed.{BookIs, Adds, MovesTask, state_in}
 use Rattle.turn_table.specs.declared.hands.Door.{Door}
 use Rattle.turn_table.specs.declared.hands.Door.TheVariants.{Pause, Events}
@@ -255,7 +254,7 @@ live_started p w table site fresh after held left well keeps its waits m live =
     (issued_before (def held) 0 fresh.pause.issued fresh.events.issued [] keeps.none_issued.0 keeps.none_issued.1))
 
 -- what the events' holder has issued, where the task is before no call
-issued_stays : (p : Program) (w : ℕ) (live : LiveIs) (after : PassIs) (left : Record) (m : MovesOn p w live.pass after live.rec left)
+pub issued_stays : (p : Program) (w : ℕ) (live : LiveIs) (after : PassIs) (left : Record) (m : MovesOn p w live.pass after live.rec left)
     → live.pass.caller ≡ live.rec.task → StandsFor p live.rec (state_seen p live.pass.seen) → OpensNone live.rec.phase
     → bound_of p after live.rec.task ≡ bound_of p live.pass live.rec.task
 issued_stays p w live after left m caller st none =

@@ -1,5 +1,5 @@
 -- Which holders belong to which task, as the hall is new.
-use Rattle.std.proofs.Common.{◌≡◌, ◌≢◌, ℕ, zero, suc, ◌+◌, ◌*◌, ◌<◌, ◌≤◌, Bool, true, false, List, [], ◌∷◌, ◌++◌, length, map, replicate, slice_get}
+use Rattle.std.proofs.Common.{◌≡◌, ℕ, zero, suc, ◌+◌, ◌*◌, ◌<◌, ◌≤◌, false, List, [], ◌∷◌, ◌++◌, length, map, replicate, slice_get}
 use Rattle.std.proofs.Common.{slice_index, Option, Some, None}
 use Rattle.std.proofs.Common.{option_map, refl, sym, ap, ◌∙◌, subst, arith, length-append}
 use Rattle.std.specs.Prelude.{IsSome, option_and_then}
@@ -9,7 +9,6 @@ use Rattle.std.proofs.lemmas.List.{length-map}
 use Rattle.std.proofs.lemmas.List.Sums.{sum_by-cons}
 use Rattle.std.specs.Prelude.{sum_by}
 use Rattle.std.proofs.lemmas.Option.{slice_get_within}
-use Rattle.rt_base.specs.declared.data.ReqNo.{ReqNo}
 use Rattle.rt_base.specs.declared.data.TaskDef.{TaskDef}
 use Rattle.rt_base.specs.declared.data.Program.{Program}
 use Rattle.rt_base.specs.Operations.{postings}
@@ -23,13 +22,13 @@ use Rattle.meet_hall.specs.Holders.{HolderIs, TicketIs, desk, first_desks}
 use Rattle.meet_hall.specs.Plan.{start_of}
 use Rattle.meet_hall.specs.Views.{first_desk}
 use Rattle.shared_lists.specs.Deeds.{state_seen, is_offered}
-use Rattle.listed_book.specs.Listed.{BookIs, state_in}
-use Rattle.turn_table.specs.declared.hands.Door.TheVariants.{Pause, Events}
-use Rattle.shared_tasks.specs.Places.{IsHolder, meeting_of, requests_of}
-use Rattle.shared_tasks.specs.Owing.{place_in, no_tickets, no_tickets_for, KeepsTickets}
+use Rattle.listed_book.specs.Listed.{BookIs}
+use Rattle.shared_tasks.specs.Places.{IsHolder, requests_of}
+use Rattle.shared_tasks.specs.Owing.{no_tickets, no_tickets_for, KeepsTickets}
 use Rattle.shared_tasks.proofs.Owed.{none_owed}
 use Rattle.shared_book.specs.declared.pairs.Pair.{Pair}
-use Rattle.shared_book.specs.Parts.{meeting_places, pairs_in, odd_in, KeepsParts}
+use Rattle.shared_book.specs.Parts.{meeting_places, KeepsParts}
+use Rattle.shared_book.specs.Computed.{pairs_in, odd_in}
 use Rattle.shared_book.specs.Kept.{IsPairOf, IsLying, HasPlaces, KeepsSection}
 
 -- ---- the holders of a new hall, by place

@@ -1,8 +1,8 @@
 -- What the lock keeps, as the book goes on.
-use Rattle.std.proofs.Common.{◌≡◌, ◌≢◌, ◌⊎◌, ℕ, zero, suc, ◌+◌, ◌-◌, ◌<◌, ◌≤◌, Bool, true, false, cond, List, [], ◌∷◌, ◌++◌, length, slice_get, slice_set}
+use Rattle.std.proofs.Common.{◌≡◌, ◌≢◌, ℕ, zero, suc, ◌+◌, ◌-◌, ◌<◌, ◌≤◌, Bool, true, false, cond, List, [], ◌∷◌, ◌++◌, length, slice_get, slice_set}
 use Rattle.std.proofs.Common.{Option, Some, None}
 use Rattle.std.proofs.Common.{refl, sym, ap, ◌∙◌, subst, inl, inr, arith}
-use Rattle.std.specs.Prelude.{IsSome, MatchOption, count_by, if◌then◌else◌, unwrap_or}
+use Rattle.std.specs.Prelude.{IsSome, MatchOption, unwrap_or}
 use Rattle.std.specs.List.{list_any}
 use Rattle.std.proofs.lemmas.Bool.{false≢true, cases_Bool, cases_eq}
 use Rattle.std.proofs.lemmas.Option.{slice_get_within}
@@ -11,39 +11,36 @@ use Rattle.rt_base.specs.declared.data.ReqNo.{ReqNo}
 use Rattle.rt_base.specs.declared.data.Program.{Program}
 use Rattle.rt_base.specs.Matching.{same_request}
 use Rattle.rt_base.proofs.SameRequest.{same_request-self}
-use Rattle.rt_base.specs.Exchange.{Exchange}
 use Rattle.rt_base.specs.Completion.{is_complete}
 use Rattle.rt_base.specs.State.{State, opening}
 use Rattle.task_local.specs.StandsFor.{Record}
-use Rattle.task_machine.specs.Machine.{move, poll}
+use Rattle.task_machine.specs.Machine.{move}
 use Rattle.task_machine.specs.Legal.{IsDefined, state_of}
-use Rattle.task_machine.specs.Owed.{opened, IsIn, IsOwed}
+use Rattle.task_machine.specs.Owed.{opened, IsOwed}
 use Rattle.task_machine.proofs.Lists.{slice_get-set_same, slice_get-set_other}
 use Rattle.tidy_runs.proofs.Bodies as bodies
 use Rattle.tidy_runs.proofs.OpenedOnce.{some_counts}
 use Rattle.history_laws.proofs.Standing.{stands_once}
 use Rattle.pass_table.specs.Passes.{TableId, PassIs, NoteIs}
 use Rattle.meet_hall.specs.Holders.{HolderIs, TicketIs}
-use Rattle.shared_lists.specs.Deeds.{moves, state_seen, is_offered, looks, is_stopped, look_number, stop_number}
-use Rattle.shared_lists.specs.Said.{Does, CatchesUp, Looks, Stops, IsFreshTask}
+use Rattle.shared_lists.specs.Deeds.{moves, state_seen, is_offered, looks, is_stopped}
+use Rattle.shared_lists.specs.Said.{Looks, Stops, IsFreshTask}
 use Rattle.shared_lists.proofs.Pairs.{state_seen-else}
 use Rattle.shared_lists.proofs.Offers.{offered-own, offered-else}
 use Rattle.listed_book.specs.declared.replies.Told.{Told}
 use Rattle.listed_book.specs.declared.replies.Offered.{Offered}
-use Rattle.listed_book.specs.Listed.{BookIs, with_pair, state_in, Adds, Stays, LooksAt, StopsAt, MovesTask}
-use Rattle.listed_book.specs.Replies.{OffersTask, TakesFirst, IsNoteOf}
+use Rattle.listed_book.specs.Listed.{BookIs, with_pair, state_in, LooksAt, StopsAt, MovesTask}
+use Rattle.listed_book.specs.Replies.{OffersTask, TakesFirst}
 use Rattle.turn_table.specs.declared.hands.Door.{Door}
-use Rattle.turn_table.specs.declared.hands.Door.TheVariants.{Pause, Events}
-use Rattle.shared_tasks.specs.Values.{FreshIs, NoticeIs}
-use Rattle.shared_tasks.specs.Places.{meeting_of, requests_of, IsHolder}
-use Rattle.shared_tasks.specs.Keeping.{IsFresh, IsNotice}
-use Rattle.shared_tasks.specs.Owing.{place_in, lying_in, with_ticket, IsTicketOf, KeepsTickets, HasOpened}
+use Rattle.shared_tasks.specs.Places.{meeting_of, IsHolder}
+use Rattle.shared_tasks.specs.Keeping.{IsFresh}
+use Rattle.shared_tasks.specs.Owing.{place_in, with_ticket, IsTicketOf, KeepsTickets, HasOpened}
 use Rattle.shared_tasks.proofs.Lying.{none_opened, places_stay}
 use Rattle.shared_tasks.proofs.Owed.{move_keeps, first_ticket, poll_keeps}
 use Rattle.shared_book.specs.declared.pairs.Pair.{Pair}
 use Rattle.shared_book.specs.Kept.{IsPairOf, IsLying, HasPlaces, KeepsSection}
 use Rattle.shared_book.specs.Answers.{Takes}
-use Rattle.shared_book.proofs.Moves.{front_sound, runs_before, at_step, does_for, new_program}
+use Rattle.shared_book.proofs.Moves.{runs_before, at_step, does_for, new_program}
 
 -- ---- a pair more at the end of the list
 

@@ -1,12 +1,10 @@
 -- What lies under the lock may move to another thread, and the shared book may be shared between threads.
 use denote.RattleType.{RattleType}
-use denote.Enum.Enum.{Enum}
-use denote.Enum.Declared as enum
 use denote.Struct.Struct.{Struct}
 use denote.Struct.Declared as struct
 use denote.Param.Send.{IsSend, IsSync, sendable}
 use Rattle.std.proofs.Crossing.{crosses}
-use Rattle.pass_table.proofs.Sent.{pass_send, table_send, table_sync}
+use Rattle.pass_table.proofs.Sent.{table_send, table_sync}
 use Rattle.meet_hall.proofs.Sent.{holder_send}
 use Rattle.listed_book.proofs.Sent.{listed_send}
 use Rattle.shared_tasks.specs.declared.names.Run as run

@@ -1,5 +1,5 @@
 -- What the calls of the shared book say, over the lists that their passes have seen.
-use Rattle.std.specs.Prelude.{◌≡◌, ℕ, ◌+◌, ◌<◌, nat_lt, if◌then◌else◌, Bool, true, false, List, [], ◌∷◌, ◌++◌, length, slice_get, Option, Some, None, ⊤}
+use Rattle.std.specs.Prelude.{◌≡◌, ℕ, ◌+◌, ◌<◌, true, List, [], ◌∷◌, ◌++◌, length, slice_get}
 use Rattle.rt_base.specs.declared.data.ReqNo.{ReqNo}
 use Rattle.rt_base.specs.declared.data.Phase.TheVariants as phase
 use Rattle.rt_base.specs.declared.data.Program.{Program}
@@ -7,18 +7,17 @@ use Rattle.rt_base.specs.Completion.{is_complete}
 use Rattle.rt_base.specs.State.{State}
 use Rattle.rt_base.specs.MayMove.{MayMove}
 use Rattle.task_local.specs.StandsFor.{Record, StandsFor}
-use Rattle.task_local.specs.declared.standing.At.{At}
-use Rattle.task_local.specs.declared.standing.At.TheVariants as at
 use Rattle.task_local.specs.Standing.{def}
 use Rattle.task_machine.specs.Machine.{move}
 use Rattle.task_machine.specs.Laws.{is_blocking_call}
 use Rattle.task_machine.specs.Owed.{opened}
 use Rattle.core_book.specs.Ledger.{record_after, bound_in, LeavesPending}
 use Rattle.pass_table.specs.Passes.{PassIs}
-use Rattle.shared_lists.specs.Deeds.{state_seen, look_number}
+use Rattle.shared_lists.specs.Deeds.{state_seen}
 use Rattle.shared_lists.specs.Said.{Does}
 use Rattle.turn_table.specs.declared.hands.Door.TheVariants.{Pause, Events}
 use Rattle.shared_tasks.specs.Values.{FreshIs, LiveIs, NoticeIs}
+use Rattle.shared_tasks.specs.Keeping.{IsAble, MayPark}
 use Rattle.shared_tasks.specs.Owing.{issuing_all}
 use Rattle.shared_book.specs.declared.moved.Moved.{Moved}
 use Rattle.shared_book.specs.declared.moved.Moved.TheVariants.{Done, Pending}
@@ -51,24 +50,6 @@ IsAnswered program state held Done = Pauses program state held → ⊥
 IsAnswered program state held (Pending Pause) = Pauses program state held
 IsAnswered program state held (Pending Events) = ⊥
 
--- whether a task that stands so is in an operation
-abbrev pub is_inside : At → Bool
-is_inside at.Local = false
-is_inside at.Fresh = false
-is_inside (at.Call k) = false
-is_inside (at.In k) = true
-is_inside at.Ended = false
-is_inside at.Returned = false
-is_inside at.Released = false
-
--- the answer to a task in an operation of which so many requests are incomplete
-abbrev pub answered : ℕ → Moved
-answered pending = if nat_lt 0 pending then Pending Pause else Done
-
--- the answer to a task that has returned and to which so many requests were bound
-abbrev pub returned : ℕ → Moved
-returned bound = if nat_lt 0 bound then Pending Events else Done
-
 -- a return is answered that its task waits exactly where requests were ever bound to it (TAMPI, TAMPI_Iwait)
 abbrev pub IsReturned : State → ℕ → Moved → Type 0
 IsReturned state t Done = bound_in state t ≡ []
@@ -87,6 +68,12 @@ pub record Calls (program : Program) (workers : ℕ) (old new : LiveIs) (moved :
   pub moves : MovesOn program workers old.pass new.pass old.rec new.rec
   pub answers : IsAnswered program (state_at program workers old.pass new.pass 0 moves.does) old.rec moved
   pub issues : Issues old new (opened program (state_at program workers old.pass new.pass 0 moves.does) old.rec.task)
+
+-- what a task may do that was so answered: its next move, or it may park at the meeting at which it waits
+-- (OmpSs-2, pause and resume; TAMPI, TAMPI_Iwait)
+abbrev pub GoesOn : Program → LiveIs → Moved → Type 0
+GoesOn program live Done = IsAble program live
+GoesOn program live (Pending door) = MayPark program door live
 
 -- a poller took the first notice that stood at its step: the request is complete after the list that ends with it, of which the notice has a note
 -- (TAMPI, completion by polling)

@@ -1,11 +1,11 @@
 -- What a run is built of, and which holders belong to its tasks.
-use Rattle.std.specs.Prelude.{◌≡◌, ℕ, ◌+◌, ◌<◌, ◌≤◌, List, [], ◌∷◌, length, slice_get, Option, Some, None}
+use Rattle.std.specs.Prelude.{◌≡◌, ℕ, ◌+◌, ◌<◌, ◌≤◌, List, [], ◌∷◌, length, slice_get, Option, Some}
 use Rattle.rt_base.specs.declared.data.TaskDef.{TaskDef}
 use Rattle.rt_base.specs.declared.data.Program.{Program}
 use Rattle.rt_base.specs.Operations.{postings}
 use Rattle.rt_base.specs.WellFormed.{WellFormed}
 use Rattle.pass_table.specs.Passes.{TableId, PassIs, new_pass}
-use Rattle.meet_hall.specs.Holders.{HolderIs, TicketIs}
+use Rattle.meet_hall.specs.Holders.{TicketIs}
 use Rattle.listed_book.specs.Listed.{BookIs}
 use Rattle.shared_tasks.specs.Owing.{no_tickets}
 use Rattle.shared_book.specs.declared.pairs.Pair.{Pair}
@@ -21,17 +21,6 @@ pub record PartsAre : Type 0 where
 abbrev pub meeting_places : List TaskDef → List ℕ
 meeting_places [] = 0 ∷ []
 meeting_places (task ∷ tasks) = postings task.body.items ∷ postings task.body.items ∷ meeting_places tasks
-
--- the holders, two by two, and the one that is left
-abbrev pub pairs_in : List HolderIs → List (Option Pair)
-pairs_in [] = []
-pairs_in (one ∷ []) = []
-pairs_in (one ∷ other ∷ holders) = Some (record { pause = one; events = other }) ∷ pairs_in holders
-
-abbrev pub odd_in : List HolderIs → Option HolderIs
-odd_in [] = None
-odd_in (one ∷ []) = Some one
-odd_in (one ∷ other ∷ holders) = odd_in holders
 
 -- the parts are those of one program: an opening book with its table, no ticket, a pass for each poller, and room for two holders of each task
 pub record KeepsParts (table : TableId) (book : BookIs) (rows : List (List (Option TicketIs))) (pollers : List PassIs) (pairs : List (Option Pair)) (room : ℕ)

@@ -2,7 +2,7 @@
 
 ghost use Rattle.std.specs.Prelude.{◌≡◌, ◌+◌, ◌*◌, ◌≤◌, [], length, slice_get, slice_set, Some, None, vec_capacity};
 ghost use Rattle.shared_book.specs.declared.pairs.Pair.{Pair as PairIs};
-ghost use Rattle.shared_book.specs.Parts.{pairs_in, odd_in};
+ghost use Rattle.shared_book.specs.Computed.{pairs_in, odd_in};
 
 use meet_hall::Holder;
 use rt_base::TaskNo;

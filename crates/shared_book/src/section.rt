@@ -12,7 +12,9 @@ ghost use Rattle.shared_lists.specs.Deeds.{moves, state_seen};
 ghost use Rattle.shared_lists.specs.Sound.{IsPoller};
 ghost use Rattle.shared_lists.specs.Said.{Looks, Stops, NoneLeft};
 ghost use Rattle.listed_book.specs.Replies.{IsIdle};
-ghost use Rattle.shared_book.specs.Answers.{is_inside, answered, returned, MovesOn, Calls, IsReturned, Takes, Offers};
+ghost use Rattle.shared_tasks.specs.Keeping.{IsAble};
+ghost use Rattle.shared_book.specs.Answers.{MovesOn, Calls, IsReturned, GoesOn, Takes, Offers};
+ghost use Rattle.shared_book.specs.Computed.{is_inside, answered, returned};
 
 use crate::moved::Moved;
 use crate::opening::open_all;
@@ -63,7 +65,8 @@ impl<K: Run, H: Site> Section<K, H> {
         requires made { rec.program ≡ K.program }
         requires its { rec.task ≡ fresh.task }
         requires waits { rec.phase ≡ phase.Waiting }
-        ensures { MovesOn K.program K.workers fresh.pass result.pass rec result.rec }
+        ensures moves { MovesOn K.program K.workers fresh.pass result.pass rec result.rec }
+        ensures able { IsAble K.program result }
     {
         let mut rec = rec;
         let (_, pass, pause, events) = fresh.into_parts();
@@ -86,7 +89,8 @@ impl<K: Run, H: Site> Section<K, H> {
         requires enabled { MayMove K.program (state_seen K.program live.pass.seen) live.rec.task }
         requires before { IsAtCall (def live.rec) live.rec.phase }
         requires packed { cells.items ≡ packed_next (def live.rec) live.rec.phase live.rec.copy }
-        ensures { Calls K.program K.workers live result.0 result.1 }
+        ensures calls { Calls K.program K.workers live result.0 result.1 }
+        ensures goes { GoesOn K.program result.0 result.1 }
     {
         let (mut rec, pass, mut pause, mut events) = live.into_parts();
         let (pass, pending) = self.book.call(table, prog, pass, &mut rec, cells);
@@ -110,7 +114,8 @@ impl<K: Run, H: Site> Section<K, H> {
         requires enabled { MayMove K.program (state_seen K.program live.pass.seen) live.rec.task }
         requires within { IsInOperation live.rec.phase }
         requires idle { live.pause.issued ≡ [] }
-        ensures { MovesOn K.program K.workers live.pass result.pass live.rec result.rec }
+        ensures moves { MovesOn K.program K.workers live.pass result.pass live.rec result.rec }
+        ensures able { IsAble K.program result }
     {
         let (mut rec, pass, pause, events) = live.into_parts();
         let pass = self.book.leave(table, prog, pass, &mut rec);
@@ -131,6 +136,7 @@ impl<K: Run, H: Site> Section<K, H> {
         ensures moves { MovesOn K.program K.workers live.pass result.0.pass live.rec result.0.rec }
         ensures returned { IsReturned (state_seen K.program result.0.pass.seen) live.rec.task result.1 }
         ensures holders { (result.0.pause ≡ live.pause) × (result.0.events ≡ live.events) }
+        ensures goes { GoesOn K.program result.0 result.1 }
     {
         let (mut rec, pass, pause, events) = live.into_parts();
         let pass = self.book.ret(table, prog, pass, &mut rec);

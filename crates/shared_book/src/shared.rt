@@ -14,7 +14,8 @@ ghost use Rattle.shared_lists.specs.Deeds.{moves, state_seen};
 ghost use Rattle.shared_lists.specs.Sound.{IsPoller};
 ghost use Rattle.shared_lists.specs.Said.{Looks, Stops, NoneLeft};
 ghost use Rattle.listed_book.specs.Replies.{IsIdle};
-ghost use Rattle.shared_book.specs.Answers.{MovesOn, Calls, IsReturned, Takes, Offers};
+ghost use Rattle.shared_tasks.specs.Keeping.{IsAble};
+ghost use Rattle.shared_book.specs.Answers.{MovesOn, Calls, IsReturned, GoesOn, Takes, Offers};
 ghost use Rattle.shared_book.specs.Parts.{meeting_places};
 
 use crate::moved::Moved;
@@ -106,7 +107,7 @@ impl<K: Run, H: Site> SharedBook<K, H> {
         section.fresh(&self.table, pass)
     }
 
-    /// The task starts, with a copy of its cells in its fresh record.
+    /// The task starts, with a copy of its cells in its fresh record. It may make its next move.
     pub fn start<R: Wait>(
         &self,
         rt: &R,
@@ -118,14 +119,16 @@ impl<K: Run, H: Site> SharedBook<K, H> {
         requires made { rec.program ≡ K.program }
         requires its { rec.task ≡ fresh.task }
         requires waits { rec.phase ≡ phase.Waiting }
-        ensures { MovesOn K.program K.workers fresh.pass result.pass rec result.rec }
+        ensures moves { MovesOn K.program K.workers fresh.pass result.pass rec result.rec }
+        ensures able { IsAble K.program result }
     {
         let mut section = self.section.lock(rt);
         section.start(&self.table, prog, fresh, rec)
     }
 
     /// The task calls its next operation with the cells that it packed. A ticket is issued for each request that this opens: at the pause meeting where the
-    /// task awaits it in the operation, and else at the event meeting. `Pending(Door::Pause)` exactly where the call blocks and leaves requests incomplete.
+    /// task awaits it in the operation, and else at the event meeting. `Pending(Door::Pause)` exactly where the call blocks and leaves requests incomplete;
+    /// the task may then park at its pause meeting, and else make its next move.
     pub fn call<R: Wait>(
         &self,
         rt: &R,
@@ -139,25 +142,28 @@ impl<K: Run, H: Site> SharedBook<K, H> {
         requires enabled { MayMove K.program (state_seen K.program live.pass.seen) live.rec.task }
         requires before { IsAtCall (def live.rec) live.rec.phase }
         requires packed { cells.items ≡ packed_next (def live.rec) live.rec.phase live.rec.copy }
-        ensures { Calls K.program K.workers live result.0 result.1 }
+        ensures calls { Calls K.program K.workers live result.0 result.1 }
+        ensures goes { GoesOn K.program result.0 result.1 }
     {
         let mut section = self.section.lock(rt);
         section.call(&self.table, prog, hall, live, cells)
     }
 
-    /// The task leaves the operation in which it waits: received cells and statuses go into its copy.
+    /// The task leaves the operation in which it waits: received cells and statuses go into its copy. It may make its next move.
     pub fn leave<R: Wait>(&self, rt: &R, prog: &Program, live: Live<K, H>) -> Live<K, H>
         requires same { prog.now ≡ K.program }
         requires enabled { MayMove K.program (state_seen K.program live.pass.seen) live.rec.task }
         requires within { IsInOperation live.rec.phase }
         requires idle { live.pause.issued ≡ [] }
-        ensures { MovesOn K.program K.workers live.pass result.pass live.rec result.rec }
+        ensures moves { MovesOn K.program K.workers live.pass result.pass live.rec result.rec }
+        ensures able { IsAble K.program result }
     {
         let mut section = self.section.lock(rt);
         section.leave(&self.table, prog, live)
     }
 
-    /// The task returns: its body has ended. `Pending(Door::Events)` exactly where a request was ever bound to it (TAMPI, `TAMPI_Iwait`).
+    /// The task returns: its body has ended. `Pending(Door::Events)` exactly where a request was ever bound to it (TAMPI, `TAMPI_Iwait`); the task may then
+    /// park at its event meeting, and else make its next move.
     pub fn ret<R: Wait>(&self, rt: &R, prog: &Program, live: Live<K, H>) -> (Live<K, H>, Moved)
         requires same { prog.now ≡ K.program }
         requires enabled { MayMove K.program (state_seen K.program live.pass.seen) live.rec.task }
@@ -165,6 +171,7 @@ impl<K: Run, H: Site> SharedBook<K, H> {
         ensures moves { MovesOn K.program K.workers live.pass result.0.pass live.rec result.0.rec }
         ensures returned { IsReturned (state_seen K.program result.0.pass.seen) live.rec.task result.1 }
         ensures holders { (result.0.pause ≡ live.pause) × (result.0.events ≡ live.events) }
+        ensures goes { GoesOn K.program result.0 result.1 }
     {
         let mut section = self.section.lock(rt);
         section.ret(&self.table, prog, live)

@@ -1,11 +1,10 @@
-use Rattle.std.proofs.Common.{◌≡◌, ℕ, ◌+◌, ◌<◌, ◌≤◌, List, length, take, sym, ap, ◌∙◌, subst, arith}
-use Rattle.std.specs.Prelude.{IsSome}
+use Rattle.std.proofs.Common.{List, take, sym, ap, ◌∙◌, subst, arith}
 use Rattle.std.proofs.lemmas.Option.{slice_get_within}
 use Rattle.rt_base.specs.declared.data.ReqNo.{ReqNo}
 use Rattle.meetings.specs.Meetings.{times}
 use Rattle.meet_hall.specs.Holders.{HolderIs, issuing_one}
 use Rattle.shared_lists.specs.Deeds.{opened_seen}
-use Rattle.shared_tasks.specs.Owing.{place_in, HasIssued, HasOpened, issuing_all}
+use Rattle.shared_tasks.specs.Owing.{HasIssued, HasOpened, issuing_all}
 use Rattle.shared_tasks.proofs.Lying.{one_opened}
 use Rattle.shared_book.proofs.Issuing.{take_one_more, there_is_in, issuing_more, next_is_new, next_is_within, issued_place}
 use Rattle.shared_book.proofs.opening.open_all.Goals as goal

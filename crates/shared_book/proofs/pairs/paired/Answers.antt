@@ -1,9 +1,7 @@
-use Rattle.std.proofs.Common.{◌≡◌, ◌≤◌, ◌∷◌, ◌++◌, [], List, Option, Some, None, length, vec_len, vec_capacity, sym, ap, ◌∙◌, subst, arith, rules}
+use Rattle.std.proofs.Common.{◌∷◌, ◌++◌, [], List, Option, Some, length, sym, ap, ◌∙◌, arith, rules}
 use Rattle.std.proofs.lemmas.Iterator.Adapters.{YieldsList-from_vec}
 use Rattle.std.proofs.lemmas.Iterator.Consumers.{YieldsList-turn}
-use Rattle.meet_hall.specs.Holders.{HolderIs}
 use Rattle.shared_book.specs.declared.pairs.Pair.{Pair}
-use Rattle.shared_book.specs.Parts.{pairs_in, odd_in}
 use Rattle.shared_book.proofs.Pairing.{odd_none, odd_some, odd_count}
 use Rattle.shared_book.proofs.pairs.paired.Goals as goal
 

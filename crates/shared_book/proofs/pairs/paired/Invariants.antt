@@ -1,5 +1,5 @@
 use Rattle.std.proofs.Common.{◌≡◌, ◌≤◌, vec_capacity}
-use Rattle.shared_book.specs.Parts.{pairs_in, odd_in}
+use Rattle.shared_book.specs.Computed.{pairs_in, odd_in}
 use Rattle.shared_book.proofs.pairs.paired.Given as goal
 
 -- the holders so far, two by two, and the one that is left of them

@@ -1,4 +1,4 @@
-use Rattle.std.proofs.Common.{◌≡◌, ℕ, ◌<◌, List, length, slice_index, sym, ap, ◌∙◌, subst, arith}
+use Rattle.std.proofs.Common.{ℕ, List, length, sym, ap, ◌∙◌, subst, arith}
 use Rattle.meet_hall.specs.Plan.{IsNarrow}
 use Rattle.shared_book.specs.Parts.{meeting_places}
 use Rattle.shared_book.proofs.Pairing.{some_place, plan_count, few_at}

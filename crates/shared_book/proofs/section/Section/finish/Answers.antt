@@ -1,7 +1,6 @@
-use Rattle.std.proofs.Common.{ℕ, List, sym, ap, ◌∙◌, subst}
+use Rattle.std.proofs.Common.{ℕ, sym, ap, ◌∙◌, subst}
 use mathlib.Core.List.{IsPrefix}
 use Rattle.rt_base.specs.declared.data.Program.{Program}
-use Rattle.rt_base.specs.State.{State}
 use Rattle.task_machine.specs.Legal.{callers, final, phases_of, IsLegal, IsQuiet}
 use Rattle.shared_lists.specs.Deeds.{moves, state_seen}
 use Rattle.shared_book.proofs.section.Section.finish.Goals as goal

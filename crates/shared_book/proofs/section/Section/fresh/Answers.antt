@@ -1,4 +1,4 @@
-use Rattle.std.proofs.Common.{◌≡◌, List, Option, Some, sym, ap, ◌∙◌, subst}
+use Rattle.std.proofs.Common.{◌≡◌, List, Option, sym, ◌∙◌, subst}
 use Rattle.task_machine.proofs.Items.{same_some}
 use Rattle.shared_book.specs.declared.pairs.Pair.{Pair}
 use Rattle.shared_book.specs.Kept.{IsPairOf, KeepsSection}

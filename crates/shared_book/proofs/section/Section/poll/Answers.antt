@@ -1,6 +1,5 @@
-use Rattle.std.proofs.Common.{List, Option, sym, ap, ◌∙◌, subst}
+use Rattle.std.proofs.Common.{List, Option, sym, subst}
 use Rattle.meet_hall.specs.Holders.{TicketIs}
-use Rattle.shared_tasks.specs.Values.{NoticeIs}
 use Rattle.shared_book.specs.Kept.{KeepsSection}
 use Rattle.shared_book.specs.Answers.{Takes}
 use Rattle.shared_book.proofs.Sections.{kept_look, kept_poll, takes_for, told_lies}

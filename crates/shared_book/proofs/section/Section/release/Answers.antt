@@ -1,4 +1,4 @@
-use Rattle.std.proofs.Common.{◌≡◌, sym, ap, ◌∙◌, subst}
+use Rattle.std.proofs.Common.{◌≡◌, ap, ◌∙◌, subst}
 use Rattle.rt_base.specs.declared.data.Phase.TheVariants as phase
 use Rattle.turn_table.specs.declared.hands.Door.TheVariants.{Events}
 use Rattle.shared_tasks.specs.Values.{LiveIs}

@@ -1,6 +1,6 @@
-use Rattle.std.proofs.Common.{◌≡◌, ℕ, ◌+◌, ◌<◌, List, Option, Some, length, slice_get, vec_capacity, sym, ap, ◌∙◌, subst, arith}
+use Rattle.std.proofs.Common.{ℕ, ◌+◌, ◌<◌, List, Option, Some, length, vec_capacity, sym, ap, ◌∙◌, subst, arith}
 use Rattle.rt_base.specs.declared.data.Program.{Program}
-use Rattle.pass_table.specs.Passes.{TableId, PassIs, new_pass}
+use Rattle.pass_table.specs.Passes.{TableId, new_pass}
 use Rattle.shared_book.specs.declared.pairs.Pair.{Pair}
 use Rattle.shared_book.specs.Kept.{KeepsSection}
 use Rattle.shared_book.specs.Parts.{PartsAre}
