@@ -61,7 +61,7 @@ impl Engine {
     }
 
     /// Posts a send with the cells that it takes now, and answers the receive that took its message (MPI 4.0, 3.5, order).
-    /// In constant time over all postings: one call may step over all that was taken from the lanes of its message since the last search there.
+    /// In constant time over all postings: one call may step over all that was taken from the lanes of its message and not stepped over before.
     pub fn post_send(&mut self, prog: &Program, req: ReqNo, cells: Cells) -> Option<ReqNo>
         requires program { prog.now ≡ self.old.program }
         requires send { IsSend self.old.program req (length cells.items) }
@@ -85,7 +85,7 @@ impl Engine {
     }
 
     /// Posts a receive, and answers the send whose message it took (MPI 4.0, 3.5, order).
-    /// In constant time over all postings: one call may step over all that was taken from the lane of its selector since the last search there.
+    /// In constant time over all postings: one call may step over all that was taken from the lane of its selector and not stepped over before.
     pub fn post_recv(&mut self, prog: &Program, req: ReqNo) -> Option<ReqNo>
         requires program { prog.now ≡ self.old.program }
         requires receive { IsReceive self.old.program req }
