@@ -1,0 +1,5 @@
+mod Entries
+mod Groups
+mod Headers
+mod Numbers
+mod Once
