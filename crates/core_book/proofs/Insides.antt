@@ -2,10 +2,10 @@
 use Rattle.std.specs.Prelude.{vec_capacity}
 use Rattle.std.specs.VecDeque.{deque_capacity}
 use Rattle.core_book.specs.declared.book.Book.TheInside.{Inside}
-use Rattle.core_book.specs.Kept.{Shelf}
+use Rattle.book_parts.specs.Kept.{BookParts}
 
-abbrev pub shelf_of : Inside → Shelf
-shelf_of b = record {
+abbrev pub parts_of : Inside → BookParts
+parts_of b = record {
   program = b.program.value;
   workers = b.workers;
   ready = b.deps;

@@ -8,7 +8,7 @@ ghost use Rattle.task_local.specs.StandsFor.{StandsFor};
 ghost use Rattle.task_machine.specs.Legal.{final, phases_of, IsLegal};
 ghost use Rattle.task_local.specs.Standing.{def, packed_next, IsAtCall};
 ghost use Rattle.task_machine.specs.Machine.{move};
-ghost use Rattle.core_book.specs.Ledger.{MakesMove, IsReady, IsInOperation, LeavesPending, TakesNotice, new_ledger};
+ghost use Rattle.book_parts.specs.Ledger.{MakesMove, IsReady, IsInOperation, LeavesPending, TakesNotice, new_ledger};
 
 mod calls;
 mod leaves;
@@ -16,12 +16,11 @@ mod polls;
 mod questions;
 mod releases;
 
-use crate::fresh::{fresh_lists, fresh_numbers};
-use crate::places::{blocked_place, call_place};
-use crate::posting::posting_at;
-use crate::tasks::{phase_before, stop, task_of};
-use crate::waits::binds_at;
 use book_counts::{Counts, Posted};
+use book_parts::{
+    binds_at, blocked_place, call_place, fresh_lists, fresh_numbers, phase_before, posting_at,
+    stop, task_of,
+};
 use match_engine::Engine;
 use region_deps::Deps;
 use rt_base::{Cells, Entry, History, Listed, Phase, Phases, Program, ReqNo, Status, TaskNo};
@@ -72,8 +71,8 @@ pub struct Book {
 impl Model for Book {
     ghost use Rattle.std.specs.Prelude.{vec_capacity};
     ghost use Rattle.std.specs.VecDeque.{deque_capacity};
-    ghost use Rattle.core_book.specs.Ledger.{Ledger};
-    ghost use Rattle.core_book.specs.Kept.{IsBook};
+    ghost use Rattle.book_parts.specs.Ledger.{Ledger};
+    ghost use Rattle.book_parts.specs.Kept.{IsBook};
 
     ghost Value = { Ledger };
 

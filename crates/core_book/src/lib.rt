@@ -2,11 +2,5 @@
 #![tactic(auto)]
 
 mod book;
-mod fresh;
-mod places;
-mod posting;
-mod room;
-mod tasks;
-mod waits;
 
 pub use book::{Book, BookEnd};

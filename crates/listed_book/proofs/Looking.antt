@@ -6,7 +6,7 @@ use Rattle.rt_base.specs.declared.data.Program.{Program}
 use Rattle.rt_base.specs.Precedes.{MayStart}
 use Rattle.rt_base.specs.State.{State, let_go}
 use Rattle.task_machine.specs.Legal.{final}
-use Rattle.core_book.specs.Ledger.{IsReady}
+use Rattle.book_parts.specs.Ledger.{IsReady}
 use Rattle.pass_table.specs.Passes.{PassIs, NoteIs}
 use Rattle.shared_lists.specs.Deeds.{state_seen, is_offered, is_stopped, look_number, stop_number}
 use Rattle.shared_lists.specs.Sound.{IsPoller}

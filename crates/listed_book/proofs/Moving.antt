@@ -19,7 +19,7 @@ use Rattle.task_machine.proofs.Items.{same_some}
 use Rattle.task_machine.proofs.Runs.{step-task, exists_of_move}
 use Rattle.task_machine.proofs.Fronts.{move_who}
 use Rattle.task_machine.proofs.Stops.{stop_started}
-use Rattle.core_book.specs.Ledger.{Ledger, MakesMove, LeavesPending, record_after}
+use Rattle.book_parts.specs.Ledger.{Ledger, MakesMove, LeavesPending, record_after}
 use Rattle.pass_table.specs.Passes.{PassIs, NoteIs, HasItsSteps, times}
 use Rattle.shared_lists.specs.Deeds.{Move, state_seen, is_offered}
 use Rattle.shared_lists.specs.Sound.{MayDo, IsSound}

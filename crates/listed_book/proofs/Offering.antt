@@ -7,7 +7,7 @@ use Rattle.rt_base.specs.declared.data.Program.{Program}
 use Rattle.rt_base.specs.Precedes.{MayStart}
 use Rattle.rt_base.specs.State.{State, let_go}
 use Rattle.task_machine.proofs.Items.{same_some}
-use Rattle.core_book.specs.Ledger.{Ledger, IsReady}
+use Rattle.book_parts.specs.Ledger.{Ledger, IsReady}
 use Rattle.pass_table.specs.Passes.{PassIs, NoteIs, HasItsSteps, times}
 use Rattle.shared_lists.specs.Deeds.{state_seen, is_offered}
 use Rattle.shared_lists.specs.Sound.{IsPoller}

@@ -6,7 +6,7 @@ use Rattle.std.proofs.lemmas.Option.{slice_get-map, slice_get_within}
 use Rattle.rt_base.specs.declared.data.Program.{Program}
 use Rattle.rt_base.specs.WellFormed.{WellFormed}
 use Rattle.task_machine.proofs.Items.{at_replicate, same_some}
-use Rattle.core_book.specs.Ledger.{Ledger, new_ledger}
+use Rattle.book_parts.specs.Ledger.{Ledger, new_ledger}
 use Rattle.pass_table.specs.Passes.{TableId, PassIs, NoteIs, new_pass, new_passes}
 use Rattle.pass_table.proofs.FirstPasses.{each_has_its_pass}
 use Rattle.shared_lists.specs.Deeds.{is_offered}

@@ -18,7 +18,7 @@ use Rattle.task_machine.specs.Legal.{IsDefined, state_after, caller, final}
 use Rattle.task_machine.proofs.Runs.{exists_of_move}
 use Rattle.task_machine.proofs.Fronts.{past}
 use Rattle.task_machine.proofs.Others.{leaves_others, complete_stays}
-use Rattle.core_book.specs.Ledger.{Ledger, TakesNotice}
+use Rattle.book_parts.specs.Ledger.{Ledger, TakesNotice}
 use Rattle.history_laws.specs.Notices.{standing}
 use Rattle.history_laws.proofs.Standing.{stands_once}
 use Rattle.pass_table.specs.Passes.{PassIs, NoteIs}

@@ -2,7 +2,7 @@
 use Rattle.std.specs.Prelude.{◌≡◌, ℕ, ◌^◌, ◌<◌, Bool, true, false, List, [], length, slice_get, Option, Some, None, ⊤}
 use Rattle.rt_base.specs.WellFormed.{WellFormed}
 use Rattle.task_machine.specs.Legal.{callers}
-use Rattle.core_book.specs.Ledger.{Ledger}
+use Rattle.book_parts.specs.Ledger.{Ledger}
 use Rattle.pass_table.specs.Passes.{TableId, PassIs, NoteIs}
 use Rattle.shared_lists.specs.Deeds.{moves, is_offered, looks, is_stopped}
 use Rattle.shared_lists.specs.Sound.{IsSound}

@@ -6,7 +6,7 @@ use Rattle.rt_base.specs.MayMove.{MayMove}
 use Rattle.task_local.specs.StandsFor.{Record}
 use Rattle.task_machine.specs.Machine.{move}
 use Rattle.task_machine.specs.Owed.{opened}
-use Rattle.core_book.specs.Ledger.{record_after}
+use Rattle.book_parts.specs.Ledger.{record_after}
 use Rattle.pass_table.specs.Passes.{TableId, PassIs}
 use Rattle.shared_lists.specs.Deeds.{state_seen, opened_seen, looks, is_stopped, look_number, stop_number}
 use Rattle.shared_lists.specs.Said.{IsStill, Does, CatchesUp, IsLiveTask}

@@ -1,7 +1,7 @@
 //! The book with its list.
 
 ghost use Rattle.std.specs.Prelude.{◌≡◌, length, slice_get};
-ghost use Rattle.core_book.specs.Ledger.{bound_in};
+ghost use Rattle.book_parts.specs.Ledger.{bound_in};
 ghost use Rattle.shared_lists.specs.Deeds.{opened_seen};
 ghost use Rattle.listed_book.specs.Listed.{state_in};
 

@@ -5,7 +5,7 @@ ghost use Rattle.rt_base.specs.declared.data.Phase.TheVariants as phase;
 ghost use Rattle.rt_base.specs.MayMove.{MayMove};
 ghost use Rattle.task_local.specs.Standing.{def, packed_next, IsAtCall};
 ghost use Rattle.task_machine.specs.Machine.{move};
-ghost use Rattle.core_book.specs.Ledger.{IsInOperation, LeavesPending};
+ghost use Rattle.book_parts.specs.Ledger.{IsInOperation, LeavesPending};
 ghost use Rattle.shared_lists.specs.Deeds.{state_seen};
 ghost use Rattle.shared_lists.specs.Said.{IsFreshTask, IsLiveTask};
 ghost use Rattle.listed_book.specs.Listed.{MovesTask, state_in};

@@ -13,8 +13,8 @@ use Rattle.task_local.specs.declared.standing.At.TheVariants as at
 use Rattle.task_local.specs.StandsFor.{Record, StandsFor, StandsAs}
 use Rattle.task_local.specs.Standing.{def, at_phase, at_operation, moved_on, IsCall, IsAtCall}
 use Rattle.task_local.proofs.Stands.{stands_after_moved_on}
-use Rattle.core_book.specs.Ledger.{IsInOperation}
-use Rattle.plain_run.specs.Turns.{is_started, IsPlaced, IsInLine}
+use Rattle.book_parts.specs.Ledger.{IsInOperation}
+use Rattle.plain_run.specs.Turns.{is_started, HasOperation, IsInLine}
 use Rattle.plain_run.proofs.Others.{IsAble, stop_able, stop_is_started}
 use Rattle.plain_run.proofs.Lines.{not_released}
 
@@ -25,7 +25,7 @@ pub record IsBefore (p : Program) (s : State) (held : Record) : Type 0 where
   pub started : held.phase ≢ phase.Waiting
 
 -- local operations lead to a call, or to the end
-moved_able : (d : TaskDef) (from : Phase) (held : Record) → held.phase ≡ from → IsPlaced d from → from ≢ phase.Released
+moved_able : (d : TaskDef) (from : Phase) (held : Record) → held.phase ≡ from → HasOperation d from → from ≢ phase.Released
     → IsAble d (moved_on d from held).phase
 moved_able d phase.Waiting held is placed unreleased = subst (IsAble d) (sym is) tt
 moved_able d (phase.At k) held is placed unreleased = stop_able d k

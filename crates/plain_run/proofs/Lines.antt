@@ -16,14 +16,14 @@ use Rattle.task_local.specs.StandsFor.{Record, StandsFor, StandsAs}
 use Rattle.task_local.specs.Standing.{def}
 use Rattle.task_machine.specs.Machine.{move}
 use Rattle.task_machine.specs.Legal.{final, phases_of, IsQuiet}
-use Rattle.core_book.specs.Ledger.{Ledger, MakesMove, new_ledger}
+use Rattle.book_parts.specs.Ledger.{Ledger, MakesMove, new_ledger}
 use Rattle.task_machine.specs.Course.{all_left}
-use Rattle.plain_run.specs.Turns.{is_started, IsPlaced, IsInLine, AreInLine, IsFresh, AreFresh, left, turns_left, GoesOn, EndsTurn, IsRunning}
+use Rattle.plain_run.specs.Turns.{is_started, HasOperation, IsInLine, AreInLine, IsFresh, AreFresh, left, turns_left, GoesOn, EndsTurn, IsRunning}
 use Rattle.task_machine.proofs.Lists.{slice_get-set_same, slice_get-set_other, slice_get-map}
 use Rattle.task_machine.proofs.Items.{same_some, either_place, at_replicate}
 use Rattle.task_machine.proofs.Moves.{all_left-set}
 use Rattle.run_bounds.proofs.Moves.{phases_after}
-use Rattle.core_book.proofs.Held.{def_is}
+use Rattle.book_parts.proofs.Held.{def_is}
 use Rattle.plain_run.proofs.Others.{IsAble, OnlyMoves, move_others, stop_able}
 
 -- an item after one was written
@@ -45,7 +45,7 @@ not_released p s t task may here released =
     subst (λ (at : Phase). MayMoveAt p s.tasks s.exchange t may.def may.task at) there may.enabled
 
 -- a task for which a record stands may be moved on where it may move
-able_as : (d : TaskDef) (at : Phase) (copy : List ℤ) (task : Task) → StandsAs d at copy task → IsPlaced d at → task.phase ≢ phase.Released
+able_as : (d : TaskDef) (at : Phase) (copy : List ℤ) (task : Task) → StandsAs d at copy task → HasOperation d at → task.phase ≢ phase.Released
     → IsAble d task.phase
 able_as d phase.Waiting copy task stands placed held = subst (IsAble d) (sym stands) tt
 able_as d (phase.At k) copy task stands placed held = subst (IsAble d) stands.0 (stop_able d k)
@@ -63,10 +63,10 @@ started_as d phase.Ended copy task stands started = refl
 started_as d phase.Returned copy task stands started = refl
 started_as d phase.Released copy task stands started = refl
 
-placed_as : (d : TaskDef) (at : Phase) (copy : List ℤ) (task : Task) → StandsAs d at copy task → IsPlaced d task.phase → IsPlaced d at
+placed_as : (d : TaskDef) (at : Phase) (copy : List ℤ) (task : Task) → StandsAs d at copy task → HasOperation d task.phase → HasOperation d at
 placed_as d phase.Waiting copy task stands placed = tt
 placed_as d (phase.At k) copy task stands placed = tt
-placed_as d (phase.In k) copy task stands placed = subst (IsPlaced d) stands.0 placed
+placed_as d (phase.In k) copy task stands placed = subst (HasOperation d) stands.0 placed
 placed_as d phase.Ended copy task stands placed = tt
 placed_as d phase.Returned copy task stands placed = tt
 placed_as d phase.Released copy task stands placed = tt
@@ -79,7 +79,7 @@ line_moves p s handed t held may a =
     let is_task : slice_get s.tasks t ≡ Some a.stands.task = ap (slice_get s.tasks) (sym a.mine) ∙ a.stands.is_task in
     move_others p s t d a.stands.task (ap (slice_get p.tasks.items) (sym a.mine) ∙ a.stands.is_def) is_task
     (able_as d held.phase held.copy a.stands.task a.stands.stands
-    (subst (λ (x : TaskDef). IsPlaced x held.phase) (own_line_def p held s a.stands) a.placed)
+    (subst (λ (x : TaskDef). HasOperation x held.phase) (own_line_def p held s a.stands) a.placed)
     (not_released p s t a.stands.task may is_task))
 
 -- the record of the task that moved
@@ -93,9 +93,9 @@ mover_in_line p s new handed t d was e after moves is_def within mine stands giv
     record {
       mine = mine;
       stands = stands;
-      placed = subst (λ (x : TaskDef). IsPlaced x after.phase) (sym (own_line_def p after new stands))
+      placed = subst (λ (x : TaskDef). HasOperation x after.phase) (sym (own_line_def p after new stands))
           (placed_as stands.def after.phase after.copy stands.task stands.stands
-          (subst (λ (x : TaskDef). IsPlaced x stands.task.phase) (sym one_def) (subst (λ (x : Task). IsPlaced d x.phase) (sym one_task) moves.placed)));
+          (subst (λ (x : TaskDef). HasOperation x stands.task.phase) (sym one_def) (subst (λ (x : Task). HasOperation d x.phase) (sym one_task) moves.placed)));
       handed_out = given ∙ ap Some (sym (started_as stands.def after.phase after.copy stands.task stands.stands
           (ap (λ (x : Task). is_started x.phase) one_task ∙ moves.started)));
     }
@@ -218,7 +218,7 @@ fresh_line p t held d fresh is_def =
         is_task = ap (slice_get (replicate (length p.tasks.items) waiting_task)) fresh.mine ∙ at_replicate (length p.tasks.items) waiting_task t within;
         stands = subst (λ (at : Phase). StandsAs d at held.copy waiting_task) (sym fresh.waits) refl;
       };
-      placed = subst (IsPlaced (def held)) (sym fresh.waits) tt;
+      placed = subst (HasOperation (def held)) (sym fresh.waits) tt;
       handed_out = at_replicate (length p.tasks.items) false t within ∙ ap (λ (at : Phase). Some (is_started at)) (sym fresh.waits);
     }
 

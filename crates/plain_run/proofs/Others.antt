@@ -25,7 +25,7 @@ use Rattle.task_local.specs.Standing.{IsCall}
 use Rattle.task_machine.specs.Machine.{Moved, move, move_at, call_move, post_move, await_move, is_expected, noticed, open_ones}
 use Rattle.task_machine.specs.Legal.{caller}
 use Rattle.task_machine.specs.Course.{moves_left}
-use Rattle.plain_run.specs.Turns.{is_started, IsPlaced}
+use Rattle.plain_run.specs.Turns.{is_started, HasOperation}
 use Rattle.task_machine.proofs.Rows.{move-row}
 use Rattle.run_bounds.proofs.Changes.{fewer_at_start, fewer_after_leave, left_by_stop}
 
@@ -44,7 +44,7 @@ pub record OnlyMoves (p : Program) (s : State) (t : ℕ) (def : TaskDef) (was : 
   pub tasks : new.tasks ≡ slice_set s.tasks t now
   pub who : caller (length p.tasks.items) e ≡ t
   pub started : is_started now.phase ≡ true
-  pub placed : IsPlaced def now.phase
+  pub placed : HasOperation def now.phase
   pub fewer : moves_left (length def.body.items) now.phase + 1 ≤ moves_left (length def.body.items) was.phase
   pub noticed : length new.notices ≤ length s.notices + 1
 
@@ -67,7 +67,7 @@ stop_at_started k (op.Compute kind dst left right value step ∷ ops) = stop_at_
 stop_at_started k (op.Post how span peer tag comm status ∷ ops) = refl
 stop_at_started k (op.Await later handles status ∷ ops) = refl
 
-stop_at_placed : (def : TaskDef) (k : ℕ) (ops : List Op) → IsPlaced def (stop_at k ops)
+stop_at_placed : (def : TaskDef) (k : ℕ) (ops : List Op) → HasOperation def (stop_at k ops)
 stop_at_placed def k [] = tt
 stop_at_placed def k (op.Compute kind dst left right value step ∷ ops) = stop_at_placed def (k + 1) ops
 stop_at_placed def k (op.Post how span peer tag comm status ∷ ops) = tt
@@ -77,7 +77,7 @@ pub stop_is_started : (def : TaskDef) (k : ℕ) → is_started (stop def k) ≡ 
 unfolding stop
 stop_is_started def k = stop_at_started k (drop k def.body.items)
 
-stop_is_placed : (def : TaskDef) (k : ℕ) → IsPlaced def (stop def k)
+stop_is_placed : (def : TaskDef) (k : ℕ) → HasOperation def (stop def k)
 unfolding stop
 stop_is_placed def k = stop_at_placed def k (drop k def.body.items)
 

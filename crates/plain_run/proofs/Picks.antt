@@ -11,7 +11,7 @@ use Rattle.rt_base.specs.MayMove.{MayMove, MayMoveAt}
 use Rattle.task_local.specs.StandsFor.{Record, StandsAs}
 use Rattle.task_local.specs.Standing.{def, moved_on}
 use Rattle.task_machine.specs.Legal.{final, IsQuiet}
-use Rattle.core_book.specs.Ledger.{Ledger, MakesMove, IsReady}
+use Rattle.book_parts.specs.Ledger.{Ledger, MakesMove, IsReady}
 use Rattle.plain_run.specs.Turns.{is_started, IsInLine, AreInLine, GoesOn}
 use Rattle.task_machine.proofs.Lists.{slice_get-set_same, slice_get-set_other}
 use Rattle.plain_run.proofs.Lines.{goes_on}

@@ -9,9 +9,9 @@ use Rattle.task_local.specs.StandsFor.{Record}
 use Rattle.task_machine.specs.Legal.{final, phases_of}
 use Rattle.task_machine.specs.Machine.{Moved}
 use Rattle.task_machine.specs.Course.{all_left}
-use Rattle.core_book.specs.Ledger.{Ledger, TakesNotice}
+use Rattle.book_parts.specs.Ledger.{Ledger, TakesNotice}
 use Rattle.plain_run.specs.Turns.{IsInLine, AreInLine, GoesOn, turns_left}
-use Rattle.core_book.proofs.Polled.{without_first, poll-first}
+use Rattle.book_parts.proofs.Polled.{without_first, poll-first}
 
 -- a record stands as before where a notice is gone
 still_in_line : (p : Program) (s : State) (rest : List ReqNo) (handed : List Bool) (t : ℕ) (held : Record) → IsInLine p s handed t held

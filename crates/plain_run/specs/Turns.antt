@@ -7,7 +7,7 @@ use Rattle.rt_base.specs.declared.data.Program.{Program}
 use Rattle.rt_base.specs.State.{State}
 use Rattle.task_local.specs.StandsFor.{Record, StandsFor}
 use Rattle.task_local.specs.Standing.{def}
-use Rattle.core_book.specs.Ledger.{Ledger}
+use Rattle.book_parts.specs.Ledger.{Ledger}
 use Rattle.task_machine.specs.Legal.{final, phases_of, IsQuiet}
 use Rattle.task_machine.specs.Course.{all_left}
 
@@ -21,19 +21,19 @@ is_started phase.Returned = true
 is_started phase.Released = true
 
 -- where the task is in an operation, its body has that operation
-abbrev pub IsPlaced : TaskDef → Phase → Type 0
-IsPlaced def phase.Waiting = ⊤
-IsPlaced def (phase.At k) = ⊤
-IsPlaced def (phase.In k) = k < length def.body.items
-IsPlaced def phase.Ended = ⊤
-IsPlaced def phase.Returned = ⊤
-IsPlaced def phase.Released = ⊤
+abbrev pub HasOperation : TaskDef → Phase → Type 0
+HasOperation def phase.Waiting = ⊤
+HasOperation def (phase.At k) = ⊤
+HasOperation def (phase.In k) = k < length def.body.items
+HasOperation def phase.Ended = ⊤
+HasOperation def phase.Returned = ⊤
+HasOperation def phase.Released = ⊤
 
 -- the record is that of task t and stands for it, and the task was started if it was handed out
 pub record IsInLine (program : Program) (state : State) (handed : List Bool) (t : ℕ) (held : Record) : Type 0 where
   pub mine : held.task ≡ t
   pub stands : StandsFor program held state
-  pub placed : IsPlaced (def held) held.phase
+  pub placed : HasOperation (def held) held.phase
   pub handed_out : slice_get handed t ≡ Some (is_started held.phase)
 
 -- the records are those of all tasks, in the state after the book's history

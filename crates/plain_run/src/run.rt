@@ -6,7 +6,7 @@ ghost use Rattle.rt_base.specs.WellFormed.{WellFormed};
 ghost use Rattle.rt_base.specs.MayMove.{MayMove};
 ghost use Rattle.task_local.specs.Standing.{def, moved_on};
 ghost use Rattle.task_machine.specs.Legal.{final, phases_of, IsLegal, IsQuiet};
-ghost use Rattle.core_book.specs.Ledger.{MakesMove, IsReady};
+ghost use Rattle.book_parts.specs.Ledger.{MakesMove, IsReady};
 ghost use Rattle.plain_run.specs.Turns.{IsInLine, AreInLine, AreFresh, EndsTurn};
 
 use core_book::{Book, BookEnd};

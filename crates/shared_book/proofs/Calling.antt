@@ -20,13 +20,13 @@ use Rattle.task_local.specs.StandsFor.{Record, StandsFor, StandsAs}
 use Rattle.task_local.specs.Standing.{def, def_of, no_task, phase_before, at_phase, at_operation, IsAtCall, IsCall}
 use Rattle.task_machine.specs.Machine.{move}
 use Rattle.task_machine.specs.Laws.{is_blocking_call, is_call_that_opens}
-use Rattle.task_machine.specs.Owed.{opened, opened_at, opened_by, opened_by_posting, IsIn}
+use Rattle.task_machine.specs.Owed.{opened, opened_at, opened_by, opened_by_posting, IsOneOf}
 use Rattle.task_machine.proofs.Items.{same_some}
 use Rattle.task_machine.proofs.Owing.{calls_tell}
 use Rattle.tidy_runs.specs.Openings.{Opens}
 use Rattle.tidy_runs.proofs.Bodies.{own_in}
 use Rattle.tidy_runs.proofs.OpenedOnce.{opened-row}
-use Rattle.core_book.specs.Ledger.{phase_after_call, LeavesPending}
+use Rattle.book_parts.specs.Ledger.{phase_after_call, LeavesPending}
 use Rattle.pass_table.specs.Passes.{TableId, PassIs}
 use Rattle.meet_hall.specs.Holders.{HolderIs, TicketIs}
 use Rattle.shared_lists.specs.Deeds.{moves, state_seen, opened_seen}
@@ -306,7 +306,7 @@ events_may p w table site live after left k well keeps at outside m =
 
 -- the tickets of what may be issued have their places
 pub places_for : (p : Program) (t : ℕ) (holder : HolderIs) (reqs : List ReqNo) (rows : List (List (Option TicketIs))) → HasPlaces p rows
-    → holder.places ≡ requests_of (slice_get p.tasks.items t) → AreNew t holder reqs → (req : ReqNo) → IsIn req reqs → IsSome (place_in rows req)
+    → holder.places ≡ requests_of (slice_get p.tasks.items t) → AreNew t holder reqs → (req : ReqNo) → IsOneOf req reqs → IsSome (place_in rows req)
 places_for p t holder reqs rows places known new req is_in =
     let own = own_in t reqs req new.own is_in in
     let below = new.within req.nth (place_of_one t req reqs new.own is_in) in

@@ -19,14 +19,14 @@ use Rattle.task_local.specs.Local.{stop_at, stop}
 use Rattle.task_local.specs.StandsFor.{Record, StandsFor, StandsAs}
 use Rattle.task_local.specs.Standing.{def, phase_before}
 use Rattle.task_machine.specs.Machine.{move, or_none, phase_at, awaited_at}
-use Rattle.task_machine.specs.Owed.{opened, IsIn}
+use Rattle.task_machine.specs.Owed.{opened, IsOneOf}
 use Rattle.task_machine.specs.Laws.{is_blocking_call}
 use Rattle.tidy_runs.specs.Tidy.{AreOf}
 use Rattle.tidy_runs.specs.Openings.{Opens}
 use Rattle.tidy_runs.proofs.Bodies.{open_has}
 use Rattle.tidy_runs.proofs.OpenedOnce.{opened_own}
 use Rattle.tidy_runs.proofs.Tidying.{runs_are_tidy}
-use Rattle.core_book.specs.Ledger.{bound_in}
+use Rattle.book_parts.specs.Ledger.{bound_in}
 use Rattle.pass_table.specs.Passes.{TableId, PassIs}
 use Rattle.shared_lists.specs.Deeds.{moves, state_seen, opened_seen}
 use Rattle.shared_lists.specs.Sound.{IsSound}
@@ -160,7 +160,7 @@ awaits_opened p s t j o inside =
     ∙ ap (λ (f : Phase). awaited_at t (Some o.def) (Some f)) inside in
     subst (AreAwaited p new.exchange t (places_of (opened p s t))) (sym here)
     (awaited_among p new.exchange t (opened p s t) (awaited t o.def j) (opened_own p s t)
-    (λ q has open_. subst (λ (reqs : List ReqNo). IsIn q reqs) (sym (o.waits j inside)) (open_has p new.exchange q (awaited t o.def j) open_ has)))
+    (λ q has open_. subst (λ (reqs : List ReqNo). IsOneOf q reqs) (sym (o.waits j inside)) (open_has p new.exchange q (awaited t o.def j) open_ has)))
 
 pub parks_inside : (p : Program) (w : ℕ) (table site : TableId) (book new : BookIs) (live : LiveIs) (after : PassIs) (left : Record) (pending j : ℕ)
     → Called p w table site book new live after left pending → left.phase ≡ phase.In j

@@ -5,7 +5,7 @@ use Rattle.std.proofs.Common.{append_assoc}
 use Rattle.std.specs.Prelude.{IsSome}
 use Rattle.std.proofs.lemmas.List.{append-nil}
 use Rattle.rt_base.specs.declared.data.ReqNo.{ReqNo}
-use Rattle.task_machine.specs.Owed.{IsIn}
+use Rattle.task_machine.specs.Owed.{IsOneOf}
 use Rattle.task_machine.proofs.Items.{same_some}
 use Rattle.rt_base.specs.Matching.{same_request}
 use Rattle.rt_base.proofs.SameRequest.{same_request-self}
@@ -45,11 +45,11 @@ none_there [] i none = omega arith
 none_there (r ∷ reqs) zero none = absurd (cc)
 none_there (r ∷ reqs) (suc i) none = omega (arith, none_there reqs i none)
 
-pub there_is_in : (reqs : List ReqNo) (i : ℕ) (req : ReqNo) → slice_get reqs i ≡ Some req → IsIn req reqs
+pub there_is_in : (reqs : List ReqNo) (i : ℕ) (req : ReqNo) → slice_get reqs i ≡ Some req → IsOneOf req reqs
 there_is_in [] i req here = absurd (cc)
 there_is_in (r ∷ reqs) zero req here =
     let same : r ≡ req = same_some here in
-    subst (λ (q : ReqNo). IsIn q (r ∷ reqs)) same (or_left (same_request r r) (list_any (same_request r) reqs) (same_request-self r))
+    subst (λ (q : ReqNo). IsOneOf q (r ∷ reqs)) same (or_left (same_request r r) (list_any (same_request r) reqs) (same_request-self r))
 there_is_in (r ∷ reqs) (suc i) req here = or_right (same_request req r) (list_any (same_request req) reqs) (there_is_in reqs i req here)
 
 -- ---- the holder

@@ -22,7 +22,7 @@ use Rattle.tidy_runs.specs.Openings.{Opens}
 use Rattle.tidy_runs.proofs.OpenedOnce.{opened-row}
 use Rattle.tidy_runs.proofs.Telling.{moves_open}
 use Rattle.tidy_runs.proofs.Tidying.{runs_are_tidy, unbound}
-use Rattle.core_book.specs.Ledger.{record_at, record_after, IsInOperation}
+use Rattle.book_parts.specs.Ledger.{record_at, record_after, IsInOperation}
 use Rattle.pass_table.specs.Passes.{TableId, PassIs, times}
 use Rattle.meet_hall.specs.Holders.{HolderIs}
 use Rattle.shared_lists.specs.Deeds.{moves, state_seen, opened_seen}

@@ -11,7 +11,7 @@ use Rattle.task_local.specs.Standing.{def}
 use Rattle.task_machine.specs.Machine.{move}
 use Rattle.task_machine.specs.Laws.{is_blocking_call}
 use Rattle.task_machine.specs.Owed.{opened}
-use Rattle.core_book.specs.Ledger.{record_after, bound_in, LeavesPending}
+use Rattle.book_parts.specs.Ledger.{record_after, bound_in, LeavesPending}
 use Rattle.pass_table.specs.Passes.{PassIs}
 use Rattle.shared_lists.specs.Deeds.{state_seen}
 use Rattle.shared_lists.specs.Said.{Does}

@@ -32,6 +32,7 @@ pairs_in [] = []
 pairs_in (one ∷ []) = []
 pairs_in (one ∷ other ∷ holders) = Some (record { pause = one; events = other }) ∷ pairs_in holders
 
+-- the holder that is left over, where their number is odd
 abbrev pub odd_in : List HolderIs → Option HolderIs
 odd_in [] = None
 odd_in (one ∷ []) = Some one

@@ -2,7 +2,7 @@
 
 ghost use Rattle.std.specs.Prelude.{◌≡◌, ℕ, ◌≤◌, [], length, IsSome};
 ghost use Rattle.rt_base.specs.declared.data.ReqNo.{ReqNo};
-ghost use Rattle.task_machine.specs.Owed.{IsIn};
+ghost use Rattle.task_machine.specs.Owed.{IsOneOf};
 ghost use Rattle.shared_lists.specs.Deeds.{opened_seen};
 ghost use Rattle.shared_tasks.specs.Owing.{place_in, issuing_all, AreNew, HasOpened};
 
@@ -22,7 +22,7 @@ pub(crate) fn open_all<R: Guest, N: Guest>(
     requires clear { holder.old.left ≡ [] }
     requires new { (t : ℕ) × AreNew t holder.old (opened_seen book.now.program book.now.seen) }
     requires few { length (opened_seen book.now.program book.now.seen) ≤ pending }
-    requires places { (req : ReqNo) → IsIn req (opened_seen book.now.program book.now.seen) → IsSome (place_in tickets.old req) }
+    requires places { (req : ReqNo) → IsOneOf req (opened_seen book.now.program book.now.seen) → IsSome (place_in tickets.old req) }
     ensures holder { holder.new ≡ issuing_all holder.old (opened_seen book.now.program book.now.seen) }
     ensures tickets { HasOpened holder.old (opened_seen book.now.program book.now.seen) tickets.old tickets.new }
     ensures places { (req : ReqNo) → IsSome (place_in tickets.old req) → IsSome (place_in tickets.new req) }

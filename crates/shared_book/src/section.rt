@@ -7,7 +7,7 @@ ghost use Rattle.rt_base.specs.MayMove.{MayMove};
 ghost use Rattle.task_local.specs.StandsFor.{Record};
 ghost use Rattle.task_local.specs.Standing.{def, packed_next, IsAtCall};
 ghost use Rattle.task_machine.specs.Legal.{callers, final, phases_of, IsLegal, IsQuiet};
-ghost use Rattle.core_book.specs.Ledger.{IsInOperation};
+ghost use Rattle.book_parts.specs.Ledger.{IsInOperation};
 ghost use Rattle.shared_lists.specs.Deeds.{moves, state_seen};
 ghost use Rattle.shared_lists.specs.Sound.{IsPoller};
 ghost use Rattle.shared_lists.specs.Said.{Looks, Stops, NoneLeft};

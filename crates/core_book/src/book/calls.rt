@@ -7,15 +7,15 @@ ghost use Rattle.task_local.specs.StandsFor.{StandsFor};
 ghost use Rattle.task_local.specs.Standing.{def, packed_next};
 ghost use Rattle.task_machine.specs.Machine.{move};
 ghost use Rattle.task_machine.specs.Legal.{final};
-ghost use Rattle.core_book.specs.Ledger.{MakesMove, LeavesPending};
-ghost use Rattle.core_book.specs.Kept.{PostsAs, IsWait, IsBind};
+ghost use Rattle.book_parts.specs.Ledger.{MakesMove, LeavesPending};
+ghost use Rattle.book_parts.specs.Kept.{PostsAs, IsWait, IsBind};
 
 use crate::book::Book;
-use crate::posting::{Posting, pending, phase_after, place_after, post, waits_after};
-use crate::room::note_some;
-use crate::tasks::{phase_before, stop, task_of};
-use crate::waits::handles_at;
 use book_counts::{lower_bound, lower_waited, tell, who_is_told};
+use book_parts::{
+    Posting, handles_at, note_some, pending, phase_after, phase_before, place_after, post, stop,
+    task_of, waits_after,
+};
 use rt_base::{Cells, Entry, Phase, Program, ReqNo};
 use task_local::TaskRec;
 use wait_steps::{bind_all, note, note_open, open_among};

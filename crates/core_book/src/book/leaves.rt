@@ -7,14 +7,14 @@ ghost use Rattle.rt_base.specs.MayMove.{MayMove};
 ghost use Rattle.task_local.specs.StandsFor.{StandsFor};
 ghost use Rattle.task_local.specs.Standing.{def};
 ghost use Rattle.task_machine.specs.Legal.{final};
-ghost use Rattle.core_book.specs.Ledger.{MakesMove};
-ghost use Rattle.core_book.specs.Kept.{PostsAs, is_posting_at};
+ghost use Rattle.book_parts.specs.Ledger.{MakesMove};
+ghost use Rattle.book_parts.specs.Kept.{PostsAs, is_posting_at};
 
 use crate::book::Book;
-use crate::posting::{Posting, tell_status};
-use crate::room::{count_of, statuses_from};
-use crate::tasks::{phase_before, stop, task_of};
-use crate::waits::{handles_at, status_at};
+use book_parts::{
+    Posting, count_of, handles_at, phase_before, status_at, statuses_from, stop, task_of,
+    tell_status,
+};
 use rt_base::{Entry, Program, ReqNo};
 use task_local::TaskRec;
 use wait_steps::{note, store_received, store_statuses, tell_each};

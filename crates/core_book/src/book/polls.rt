@@ -2,7 +2,7 @@
 
 ghost use Rattle.std.specs.Prelude.{◌<◌, length};
 ghost use Rattle.task_machine.specs.Legal.{final};
-ghost use Rattle.core_book.specs.Ledger.{TakesNotice};
+ghost use Rattle.book_parts.specs.Ledger.{TakesNotice};
 
 use crate::book::Book;
 use rt_base::{Entry, ReqNo};

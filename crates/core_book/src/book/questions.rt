@@ -5,10 +5,10 @@ ghost use Rattle.rt_base.specs.WellFormed.{WellFormed};
 ghost use Rattle.rt_base.specs.MayMove.{MayMove};
 ghost use Rattle.task_machine.specs.Legal.{final, IsQuiet, IsFinished};
 ghost use Rattle.task_machine.specs.Owed.{last_opened};
-ghost use Rattle.core_book.specs.Ledger.{bound_in};
+ghost use Rattle.book_parts.specs.Ledger.{bound_in};
 
 use crate::book::Book;
-use crate::tasks::is_waiting;
+use book_parts::is_waiting;
 use rt_base::{Program, ReqNo, TaskNo};
 
 impl Book {

@@ -6,11 +6,10 @@ ghost use Rattle.rt_base.specs.WellFormed.{WellFormed};
 ghost use Rattle.rt_base.specs.MayMove.{MayMove};
 ghost use Rattle.task_local.specs.StandsFor.{StandsFor};
 ghost use Rattle.task_machine.specs.Legal.{final};
-ghost use Rattle.core_book.specs.Ledger.{MakesMove};
+ghost use Rattle.book_parts.specs.Ledger.{MakesMove};
 
 use crate::book::Book;
-use crate::room::count_of;
-use crate::tasks::task_of;
+use book_parts::{count_of, task_of};
 use rt_base::{Entry, Phase, Program};
 use task_local::TaskRec;
 use wait_steps::{note, take_bound};

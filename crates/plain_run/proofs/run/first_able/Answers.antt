@@ -1,7 +1,7 @@
 -- No task may move where none was found that may.
 use Rattle.std.proofs.Common.{arith}
 use Rattle.task_machine.specs.Legal.{final}
-use Rattle.core_book.proofs.Questions.{quiet_of_all, none_before_more}
+use Rattle.book_parts.proofs.Questions.{quiet_of_all, none_before_more}
 use Rattle.plain_run.proofs.run.first_able.Goals as goal
 
 pub loop-t-preserved : goal.loop-t-preserved

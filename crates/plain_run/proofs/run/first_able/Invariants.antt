@@ -1,5 +1,5 @@
 use Rattle.task_machine.specs.Legal.{final}
-use Rattle.core_book.proofs.Questions.{NoneBefore}
+use Rattle.book_parts.proofs.Questions.{NoneBefore}
 use Rattle.plain_run.proofs.run.first_able.Given as goal
 
 -- none of the tasks so far may move

@@ -4,7 +4,7 @@ use Rattle.rt_base.specs.declared.data.Entry.{Entry}
 use Rattle.std.specs.Prelude.{List, IfOk}
 use Rattle.rt_base.specs.MayMove.{MayMove}
 use Rattle.task_local.specs.StandsFor.{StandsFor}
-use Rattle.core_book.specs.Ledger.{Ledger}
+use Rattle.book_parts.specs.Ledger.{Ledger}
 use Rattle.task_machine.specs.Legal.{final}
 use Rattle.plain_run.specs.Turns.{EndsTurn}
 use Rattle.plain_run.proofs.Picks.{line_here, ready_exists, ready_waits, ready_may, ready_handed, given_history, goes_on_ready}

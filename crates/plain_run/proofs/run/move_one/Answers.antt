@@ -1,7 +1,7 @@
 -- After its local operations the record is before the move that the standing says.
 use Rattle.std.proofs.Common.{sym, ◌∙◌, subst}
 use Rattle.task_local.specs.StandsFor.{Record}
-use Rattle.core_book.specs.Ledger.{MakesMove}
+use Rattle.book_parts.specs.Ledger.{MakesMove}
 use Rattle.task_local.specs.Standing.{def}
 use Rattle.task_machine.specs.Legal.{final}
 use Rattle.plain_run.proofs.Before.{is_before, not_local, not_fresh, at_call, in_operation, has_ended}

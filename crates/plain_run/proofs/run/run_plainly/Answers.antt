@@ -1,6 +1,6 @@
 -- The records stay in line with the book, and the last turn finds that no task may move.
 use Rattle.std.proofs.Common.{ap, arith}
-use Rattle.core_book.specs.Ledger.{Ledger}
+use Rattle.book_parts.specs.Ledger.{Ledger}
 use Rattle.plain_run.proofs.Lines.{line_at_opening, still_running, quiet_end, told_end}
 use Rattle.plain_run.proofs.run.run_plainly.Goals as goal
 

@@ -5,28 +5,28 @@ use Rattle.rt_base.specs.declared.data.ReqNo.{ReqNo}
 use Rattle.rt_base.specs.declared.data.Phase.TheVariants as phase
 use Rattle.rt_base.specs.Operations.{named_requests}
 use Rattle.task_machine.specs.Machine.{bind_move}
-use Rattle.core_book.specs.Kept.{state_now}
-use Rattle.core_book.proofs.Insides.{shelf_of}
+use Rattle.book_parts.specs.Kept.{state_now}
+use Rattle.core_book.proofs.Insides.{parts_of}
 use Rattle.run_bounds.proofs.Few.{few_operations}
-use Rattle.core_book.proofs.Moved.{IsMoved, book_after, gone_more, makes_move}
-use Rattle.core_book.proofs.Held.{entry_room, place_within}
-use Rattle.core_book.proofs.Before.{before_may}
-use Rattle.core_book.proofs.BookMoves.{left_as, shelf_alone}
-use Rattle.core_book.proofs.BoundAfter.{bound_more}
-use Rattle.core_book.proofs.Figured.{kept_figures, found}
+use Rattle.book_parts.proofs.Moved.{IsMoved, book_after, gone_more, makes_move}
+use Rattle.book_parts.proofs.Held.{entry_room, place_within}
+use Rattle.book_parts.proofs.Before.{before_may}
+use Rattle.book_parts.proofs.BookMoves.{left_as, parts_alone}
+use Rattle.book_parts.proofs.BoundAfter.{bound_more}
+use Rattle.book_parts.proofs.Figured.{kept_figures, found}
 use Rattle.book_counts.proofs.AfterMoves.{counted_stop}
 use Rattle.book_counts.proofs.Numbers.{numbered_stop}
 use Rattle.book_counts.proofs.CountLemmas.{stop_is_held}
-use Rattle.core_book.proofs.AwaitLemmas.{Awaits, awaits, bind_is, await_few, await_left, await_moved, await_pending, await_posts, await_room}
-use Rattle.core_book.proofs.BindLemmas.{bind_binds, bind_exists, bind_has, bind_stands, bind_within, bound_few, bound_here, incomplete_few}
+use Rattle.book_parts.proofs.AwaitLemmas.{Awaits, awaits, bind_is, await_few, await_left, await_moved, await_pending, await_posts, await_room}
+use Rattle.book_parts.proofs.BindLemmas.{bind_binds, bind_exists, bind_has, bind_stands, bind_within, bound_few, bound_here, incomplete_few}
 use Rattle.core_book.proofs.book.Book.bind.Goals as goal
 use Rattle.core_book.proofs.book.Book.bind.Goals.{After-clear, After-note}
 
 -- the task stands at the operation
-known : (c : After-clear) → Awaits (shelf_of c.self.inside) c.args.rec.now c.task-task.result.0 c.args.k c.task_of-def.result.now true
+known : (c : After-clear) → Awaits (parts_of c.self.inside) c.args.rec.now c.task-task.result.0 c.args.k c.task_of-def.result.now true
     c.handles_at-handles.result.now
 known c =
-    awaits (shelf_of c.self.inside) c.args.rec.now c.task-task.result.0 c.args.k c.task_of-def.result.now c.handles_at-handles.result.now
+    awaits (parts_of c.self.inside) c.args.rec.now c.task-task.result.0 c.args.k c.task_of-def.result.now c.handles_at-handles.result.now
     c.args.self.now c.args.prog.now c.self.view_is c.requires.same c.requires.stands c.task-task.ensures c.task_of-def.ensures c.requires.at
     (bind_is _ c.requires.binds) (c.handles_at-handles.ensures 0)
 
@@ -86,7 +86,7 @@ stop-requires-clause-few c = few_operations c.args.prog.now c.task-task.result.0
 pub index_mut-requires : goal.index_mut-requires
 index_mut-requires c =
     let w = known (goal.at.index_mut-requires c).After-clear in
-    let within = place_within (shelf_of c.self.inside) c.args.rec.now c.task-task.result.0 c.task_of-def.result.now (phase.At c.args.k)
+    let within = place_within (parts_of c.self.inside) c.args.rec.now c.task-task.result.0 c.task_of-def.result.now (phase.At c.args.k)
     c.self.invariant.kept w.it.here in
     let len = c.self.inside.phases.len in
     omega arith
@@ -98,21 +98,21 @@ overflow_add-k-2 c =
 
 pub note-requires : goal.note-requires
 note-requires c =
-    entry_room (shelf_of c.self.inside) c.task-task.result.0 c.self.invariant.kept
+    entry_room (parts_of c.self.inside) c.task-task.result.0 c.self.invariant.kept
     (before_may (known (goal.at.note-requires c).After-clear).it)
 
 -- the insides after the call
-moved : (c : After-note) → (w : Awaits (shelf_of c.self.inside) c.args.rec.now c.task-task.result.0 c.args.k c.task_of-def.result.now true
+moved : (c : After-note) → (w : Awaits (parts_of c.self.inside) c.args.rec.now c.task-task.result.0 c.args.k c.task_of-def.result.now true
     c.handles_at-handles.result.now)
-    → IsMoved (shelf_of c.self.inside) (shelf_alone (shelf_of c.self.inside) c.task-task.result.0 c.stop.result c.note.new.list.items
+    → IsMoved (parts_of c.self.inside) (parts_alone (parts_of c.self.inside) c.task-task.result.0 c.stop.result c.note.new.list.items
     c.bind_all-pending.new.opened.items (vec_capacity c.note.new.list) (vec_capacity c.bind_all-pending.new.opened) c.self.inside.waits
     c.bind_all-pending.new.marks c.raise.new.self c.raise-2.new.self) c.task-task.result.0 w.it.here.was
-    (bound_here (shelf_of c.self.inside) c.task-task.result.0 c.args.k c.task_of-def.result.now w.parts.handles.items w.it.here.was)
-    (bind_move (shelf_of c.self.inside).program (state_now (shelf_of c.self.inside)) c.task-task.result.0 c.task_of-def.result.now w.it.here.was c.args.k
-    (named_requests c.task-task.result.0 w.parts.handles.items))
+    (bound_here (parts_of c.self.inside) c.task-task.result.0 c.args.k c.task_of-def.result.now w.asked.handles.items w.it.here.was)
+    (bind_move (parts_of c.self.inside).program (state_now (parts_of c.self.inside)) c.task-task.result.0 c.task_of-def.result.now w.it.here.was c.args.k
+    (named_requests c.task-task.result.0 w.asked.handles.items))
 moved c w =
     await_moved c.self.invariant.kept w
-    (bound_here (shelf_of c.self.inside) c.task-task.result.0 c.args.k c.task_of-def.result.now w.parts.handles.items w.it.here.was) c.self.inside.waits
+    (bound_here (parts_of c.self.inside) c.task-task.result.0 c.args.k c.task_of-def.result.now w.asked.handles.items w.it.here.was) c.self.inside.waits
     c.bind_all-pending.new.marks c.raise.new.self c.raise-2.new.self refl (stop_is_held c.task_of-def.result.now (c.args.k + 1)) c.stop.ensures
     c.bind_all-pending.ensures.count c.clear.ensures.items c.bind_all-pending.ensures.items c.note.ensures.items c.note.ensures.places
     (omega (arith, c.clear.ensures.capacity, c.bind_all-pending.ensures.places))
@@ -121,7 +121,7 @@ pub invariant_of-self : goal.invariant_of-self
 invariant_of-self c =
     let w = known (goal.at.invariant_of-self c).After-clear in
     let m = moved (goal.at.invariant_of-self c).After-note w in
-    let f = kept_figures {shelf = shelf_of c.self.inside} c.self.invariant in
+    let f = kept_figures {parts = parts_of c.self.inside} c.self.invariant in
     let within = bind_within w in
     let binds = bound_more _ m refl in
     record {
@@ -133,7 +133,7 @@ invariant_of-self c =
 
 pub returns-clause-moves : goal.returns-clause-moves
 returns-clause-moves c =
-    let s = shelf_of c.self.inside in
+    let s = parts_of c.self.inside in
     let w = known (goal.at.returns-clause-moves c).After-clear in
     let m = moved (goal.at.returns-clause-moves c).After-note w in
     makes_move c.self.invariant.kept m w.it.here.is_def w.it.here.who w.it.here.program

@@ -1,5 +1,5 @@
 -- A new book's insides are the opening state.
-use Rattle.core_book.proofs.NewBook.{fresh_book}
+use Rattle.book_parts.proofs.NewBook.{fresh_book}
 use Rattle.core_book.proofs.book.Book.build.Goals as goal
 
 pub invariant_of-result : goal.invariant_of-result

@@ -5,27 +5,27 @@ use Rattle.std.proofs.lemmas.List.{length-append}
 use Rattle.rt_base.specs.declared.data.Status.{Status}
 use Rattle.rt_base.specs.declared.data.Phase.TheVariants as phase
 use Rattle.rt_base.specs.Operations.{nth_at, request}
-use Rattle.core_book.specs.Kept.{told_now}
-use Rattle.core_book.proofs.Insides.{shelf_of}
+use Rattle.book_parts.specs.Kept.{told_now}
+use Rattle.core_book.proofs.Insides.{parts_of}
 use Rattle.run_bounds.proofs.Few.{few_operations}
-use Rattle.core_book.proofs.BookLemmas.{status_count}
-use Rattle.core_book.proofs.Moved.{book_after, gone_more, makes_move}
-use Rattle.core_book.proofs.Held.{entry_room, place_within}
-use Rattle.core_book.proofs.BookMoves.{left_as}
-use Rattle.core_book.proofs.Within.{enabled_in, within_body}
-use Rattle.core_book.proofs.LeaveLemmas.{Inside, inside, is_done, stores, received_fit, status_places, told_here, leave_left}
-use Rattle.core_book.proofs.LeaveMoved.{Leaves, told_back, leave_moved, leave_room, leave_record, leave_stands}
-use Rattle.core_book.proofs.BoundAfter.{bound_kept}
-use Rattle.core_book.proofs.Figured.{kept_figures, found}
+use Rattle.book_parts.proofs.BookLemmas.{status_count}
+use Rattle.book_parts.proofs.Moved.{book_after, gone_more, makes_move}
+use Rattle.book_parts.proofs.Held.{entry_room, place_within}
+use Rattle.book_parts.proofs.BookMoves.{left_as}
+use Rattle.book_parts.proofs.Within.{enabled_in, within_body}
+use Rattle.book_parts.proofs.LeaveLemmas.{Inside, inside, is_done, stores, received_fit, status_places, told_here, leave_left}
+use Rattle.book_parts.proofs.LeaveMoved.{Leaves, told_back, leave_moved, leave_room, leave_record, leave_stands}
+use Rattle.book_parts.proofs.BoundAfter.{bound_kept}
+use Rattle.book_parts.proofs.Figured.{kept_figures, found}
 use Rattle.book_counts.proofs.AfterMoves.{binding_kept, leave_counted}
 use Rattle.book_counts.proofs.Numbers.{last_number, number_some, numbered_stop, posted_so_far, posting_number}
 use Rattle.core_book.proofs.book.Book.leave_posting.Goals as goal
 use Rattle.core_book.proofs.book.Book.leave_posting.Goals.{After-last-arg-1, After-note}
 
 -- the task stands in the posting
-within : (c : After-last-arg-1) → Inside (shelf_of c.self.inside) c.args.rec.now c.task-task.result.0 c.args.k c.task_of-def.result.now c.args.posting
+within : (c : After-last-arg-1) → Inside (parts_of c.self.inside) c.args.rec.now c.task-task.result.0 c.args.k c.task_of-def.result.now c.args.posting
 within c =
-    inside (shelf_of c.self.inside) c.args.rec.now c.task-task.result.0 c.args.k c.task_of-def.result.now c.args.posting
+    inside (parts_of c.self.inside) c.args.rec.now c.task-task.result.0 c.args.k c.task_of-def.result.now c.args.posting
     c.args.self.now c.args.prog.now c.self.invariant.kept c.self.view_is c.requires.same c.requires.stands c.requires.enabled c.task-task.ensures
     c.task_of-def.ensures c.requires.within c.requires.posts
 
@@ -33,7 +33,7 @@ counts : (c : After-last-arg-1) → slice_get c.self.inside.posted c.task-task.r
 counts c =
     let i = within c in
     posting_number c.task_of-def.result.now c.args.k c.task-task.result.0 _ c.self.inside.posted
-    (posted_so_far (kept_figures {shelf = shelf_of c.self.inside} c.self.invariant) (found i.in_it.here) i.in_it.here.stands.0) i.posts.is refl
+    (posted_so_far (kept_figures {parts = parts_of c.self.inside} c.self.invariant) (found i.in_it.here) i.in_it.here.stands.0) i.posts.is refl
 
 pub last-requires : goal.last-requires
 last-requires c =
@@ -61,7 +61,7 @@ store-requires-clause-fits c =
 
 pub count_of-from-requires : goal.count_of-from-requires
 count_of-from-requires c =
-    let few = status_count (shelf_of c.self.inside) c.self.invariant.kept in
+    let few = status_count (parts_of c.self.inside) c.self.invariant.kept in
     let seen = ap (λ l. length l) c.deref.ensures.value in
     omega arith
 
@@ -114,7 +114,7 @@ stop-requires-clause-few c = few_operations c.args.prog.now c.task-task.result.0
 pub index_mut-requires : goal.index_mut-requires
 index_mut-requires c =
     let i = within (goal.at.index_mut-requires c).After-last-arg-1 in
-    let inner = place_within (shelf_of c.self.inside) c.args.rec.now c.task-task.result.0 c.task_of-def.result.now
+    let inner = place_within (parts_of c.self.inside) c.args.rec.now c.task-task.result.0 c.task_of-def.result.now
     (phase.In c.args.k) c.self.invariant.kept i.in_it.here in
     let len = c.self.inside.phases.len in
     omega arith
@@ -126,12 +126,12 @@ overflow_add-k-2 c =
 
 pub note-requires : goal.note-requires
 note-requires c =
-    entry_room (shelf_of c.self.inside) c.task-task.result.0 c.self.invariant.kept (within (goal.at.note-requires c).After-last-arg-1).in_it.may
+    entry_room (parts_of c.self.inside) c.task-task.result.0 c.self.invariant.kept (within (goal.at.note-requires c).After-last-arg-1).in_it.may
 
 -- what the calls have answered
-leaves : (c : After-note) → Leaves (shelf_of c.self.inside) c.tell_status-count.new.statuses.items c.note.new.list.items c.task-task.result.0 c.args.k
+leaves : (c : After-note) → Leaves (parts_of c.self.inside) c.tell_status-count.new.statuses.items c.note.new.list.items c.task-task.result.0 c.args.k
     c.count_of-from.result c.tell_status-count.result
-    (told_now (shelf_of c.self.inside).engine.program (shelf_of c.self.inside).engine.exchange (request c.task-task.result.0 c.last.result) c.args.posting.how)
+    (told_now (parts_of c.self.inside).engine.program (parts_of c.self.inside).engine.exchange (request c.task-task.result.0 c.last.result) c.args.posting.how)
 leaves c = record {
   from_is = c.count_of-from.ensures ∙ ap (λ l. length l) c.deref.ensures.value;
   count_is = c.tell_status-count.ensures.count;
@@ -141,14 +141,14 @@ leaves c = record {
 
 pub invariant_of-self : goal.invariant_of-self
 invariant_of-self c =
-    let s = shelf_of c.self.inside in
+    let s = parts_of c.self.inside in
     let k = c.args.k in
     let at = (goal.at.invariant_of-self c).After-last-arg-1 in
     let i = within at in
     let m = leave_moved {opened_places = vec_capacity c.clear.new.self} c.self.invariant.kept i.in_it (leaves (goal.at.invariant_of-self c).After-note)
     (told_here c.self.invariant.kept i (nth at c.last.result c.last.ensures)) c.stop.ensures c.clear.ensures.items c.note.ensures.places
     c.tell_status-count.ensures.places (omega (arith, c.clear.ensures.capacity)) in
-    let f = kept_figures {shelf = s} c.self.invariant in
+    let f = kept_figures {parts = s} c.self.invariant in
     let inner = within_body i.in_it in
     let same = bound_kept m refl in
     record {
@@ -161,7 +161,7 @@ invariant_of-self c =
 
 pub returns : goal.returns
 returns c =
-    let s = shelf_of c.self.inside in
+    let s = parts_of c.self.inside in
     let held = c.args.rec.now in
     let t = c.task-task.result.0 in
     let k = c.args.k in

@@ -5,33 +5,33 @@ use Rattle.std.proofs.lemmas.List.{length-append}
 use Rattle.rt_base.specs.declared.data.Status.{Status}
 use Rattle.rt_base.specs.declared.data.Phase.TheVariants as phase
 use Rattle.task_local.specs.Waits.{statuses_of}
-use Rattle.core_book.proofs.Insides.{shelf_of}
+use Rattle.core_book.proofs.Insides.{parts_of}
 use Rattle.run_bounds.proofs.Few.{few_operations}
-use Rattle.core_book.proofs.BookLemmas.{status_count}
-use Rattle.core_book.proofs.Moved.{book_after, gone_more, makes_move}
-use Rattle.core_book.proofs.Held.{entry_room, place_within}
-use Rattle.core_book.proofs.BookMoves.{left_as}
-use Rattle.core_book.proofs.BoundAfter.{bound_kept}
-use Rattle.core_book.proofs.Figured.{kept_figures, found}
+use Rattle.book_parts.proofs.BookLemmas.{status_count}
+use Rattle.book_parts.proofs.Moved.{book_after, gone_more, makes_move}
+use Rattle.book_parts.proofs.Held.{entry_room, place_within}
+use Rattle.book_parts.proofs.BookMoves.{left_as}
+use Rattle.book_parts.proofs.BoundAfter.{bound_kept}
+use Rattle.book_parts.proofs.Figured.{kept_figures, found}
 use Rattle.book_counts.proofs.AfterMoves.{binding_kept, leave_counted}
 use Rattle.book_counts.proofs.Numbers.{numbered_stop}
 use Rattle.run_bounds.proofs.Tells.{statuses_each}
-use Rattle.core_book.proofs.Within.{Within, enabled_in, is_within, within_body}
-use Rattle.core_book.proofs.LeaveMoved.{Leaves, told_back, leave_moved, leave_record, leave_stands}
-use Rattle.core_book.proofs.WaitEnds.{InWait, in_wait, is_await, is_wait, wait_complete, wait_few, wait_told_room, wait_declared, wait_tells, wait_end}
+use Rattle.book_parts.proofs.Within.{Within, enabled_in, is_within, within_body}
+use Rattle.book_parts.proofs.LeaveMoved.{Leaves, told_back, leave_moved, leave_record, leave_stands}
+use Rattle.book_parts.proofs.WaitEnds.{InWait, in_wait, is_await, is_wait, wait_complete, wait_few, wait_told_room, wait_declared, wait_tells, wait_end}
 use Rattle.core_book.proofs.book.Book.leave_wait.Goals as goal
 use Rattle.core_book.proofs.book.Book.leave_wait.Goals.{After-task_of-def, After-handles_at-handles, After-note}
 
 -- the task is in the wait
-within_it : (c : After-task_of-def) → Within (shelf_of c.self.inside) c.args.rec.now c.task-task.result.0 c.args.k c.task_of-def.result.now
+within_it : (c : After-task_of-def) → Within (parts_of c.self.inside) c.args.rec.now c.task-task.result.0 c.args.k c.task_of-def.result.now
 within_it c =
-    is_within (shelf_of c.self.inside) c.args.rec.now c.task-task.result.0 c.args.k c.task_of-def.result.now c.args.self.now c.args.prog.now
+    is_within (parts_of c.self.inside) c.args.rec.now c.task-task.result.0 c.args.k c.task_of-def.result.now c.args.self.now c.args.prog.now
     c.self.invariant.kept c.self.view_is c.requires.same c.requires.stands c.requires.enabled c.task-task.ensures c.task_of-def.ensures c.requires.within
 
-known : (c : After-handles_at-handles) → InWait (shelf_of c.self.inside) c.args.rec.now c.task-task.result.0 c.args.k c.task_of-def.result.now
+known : (c : After-handles_at-handles) → InWait (parts_of c.self.inside) c.args.rec.now c.task-task.result.0 c.args.k c.task_of-def.result.now
     c.handles_at-handles.result.now
 known c =
-    in_wait (is_within (shelf_of c.self.inside) c.args.rec.now c.task-task.result.0 c.args.k c.task_of-def.result.now c.args.self.now c.args.prog.now
+    in_wait (is_within (parts_of c.self.inside) c.args.rec.now c.task-task.result.0 c.args.k c.task_of-def.result.now c.args.self.now c.args.prog.now
     c.self.invariant.kept c.self.view_is c.requires.same c.requires.stands c.requires.enabled c.task-task.ensures c.task_of-def.ensures c.requires.within)
     c.requires.other (c.handles_at-handles.ensures 0)
 
@@ -67,7 +67,7 @@ store_received-requires-clause-complete c =
 
 pub count_of-from-requires : goal.count_of-from-requires
 count_of-from-requires c =
-    let less = status_count (shelf_of c.self.inside) c.self.invariant.kept in
+    let less = status_count (parts_of c.self.inside) c.self.invariant.kept in
     let seen = ap (λ (l : List Status). length l) c.deref.ensures.value in
     omega arith
 
@@ -118,7 +118,7 @@ stop-requires-clause-few c = few_operations c.args.prog.now c.task-task.result.0
 pub index_mut-requires : goal.index_mut-requires
 index_mut-requires c =
     let w = known (goal.at.index_mut-requires c).After-handles_at-handles in
-    let within = place_within (shelf_of c.self.inside) c.args.rec.now c.task-task.result.0 c.task_of-def.result.now (phase.In c.args.k)
+    let within = place_within (parts_of c.self.inside) c.args.rec.now c.task-task.result.0 c.task_of-def.result.now (phase.In c.args.k)
     c.self.invariant.kept w.in_it.here in
     let len = c.self.inside.phases.len in
     omega arith
@@ -135,10 +135,10 @@ overflow_cast-handles c =
 
 pub note-requires : goal.note-requires
 note-requires c =
-    entry_room (shelf_of c.self.inside) c.task-task.result.0 c.self.invariant.kept (known (goal.at.note-requires c).After-handles_at-handles).in_it.may
+    entry_room (parts_of c.self.inside) c.task-task.result.0 c.self.invariant.kept (known (goal.at.note-requires c).After-handles_at-handles).in_it.may
 
 -- what the calls have answered
-leaves : (c : After-note) → Leaves (shelf_of c.self.inside) c.tell_each.new.statuses.items c.note.new.list.items c.task-task.result.0 c.args.k
+leaves : (c : After-note) → Leaves (parts_of c.self.inside) c.tell_each.new.statuses.items c.note.new.list.items c.task-task.result.0 c.args.k
     c.count_of-from.result (length c.handles_at-handles.result.now)
     (statuses_of c.self.inside.engine.program c.self.inside.engine.exchange c.task-task.result.0 c.handles_at-handles.result.now)
 leaves c = record {
@@ -155,7 +155,7 @@ invariant_of-self c =
     let m = leave_moved {opened_places = vec_capacity c.clear.new.self} c.self.invariant.kept w.in_it (leaves (goal.at.invariant_of-self c).After-note)
     (wait_tells c.self.invariant.kept w) c.stop.ensures c.clear.ensures.items c.note.ensures.places c.tell_each.ensures.places
     (omega (arith, c.clear.ensures.capacity)) in
-    let f = kept_figures {shelf = shelf_of c.self.inside} c.self.invariant in
+    let f = kept_figures {parts = parts_of c.self.inside} c.self.invariant in
     let within = inner at in
     let as_before = bound_kept m refl in
     record {
@@ -168,7 +168,7 @@ invariant_of-self c =
 
 pub returns : goal.returns
 returns c =
-    let s = shelf_of c.self.inside in
+    let s = parts_of c.self.inside in
     let held = c.args.rec.now in
     let t = c.task-task.result.0 in
     let d = c.task_of-def.result.now in

@@ -9,16 +9,16 @@ use Rattle.rt_base.specs.Completion.{is_complete}
 use Rattle.book_counts.specs.declared.telling.Told.{Told}
 use Rattle.wait_steps.specs.MarkedRows.{is_marked}
 use Rattle.book_counts.specs.Counted.{completed_now, expects_now, holds_now, one_less_for, told_requests}
-use Rattle.core_book.proofs.Insides.{shelf_of}
+use Rattle.core_book.proofs.Insides.{parts_of}
 use Rattle.run_bounds.proofs.Few.{few_operations}
-use Rattle.core_book.proofs.Moved.{book_after, gone_more, makes_move}
-use Rattle.core_book.proofs.Held.{same_program, phases_counted, entry_room, place_within}
-use Rattle.core_book.proofs.BookMoves.{left_as}
-use Rattle.core_book.proofs.CallLemmas.{Calls, calls, call_within, call_sends, call_receives, call_is_new, call_follows, call_may, post_opens, posting_op}
-use Rattle.core_book.proofs.CallMoved.{Answered, call_left, call_moved, call_opens, call_pending, call_stands, post_room, posted_bound}
-use Rattle.core_book.proofs.BoundAfter.{bound_kept}
-use Rattle.core_book.proofs.Figured.{kept_figures, found}
-use Rattle.core_book.proofs.CountCalls.{completes, number_is, seen_as}
+use Rattle.book_parts.proofs.Moved.{book_after, gone_more, makes_move}
+use Rattle.book_parts.proofs.Held.{same_program, phases_counted, entry_room, place_within}
+use Rattle.book_parts.proofs.BookMoves.{left_as}
+use Rattle.book_parts.proofs.CallLemmas.{Calls, calls, call_within, call_sends, call_receives, call_is_new, call_follows, call_may, post_opens, posting_op}
+use Rattle.book_parts.proofs.CallMoved.{Answered, call_left, call_moved, call_opens, call_pending, call_stands, post_room, posted_bound}
+use Rattle.book_parts.proofs.BoundAfter.{bound_kept}
+use Rattle.book_parts.proofs.Figured.{kept_figures, found}
+use Rattle.book_parts.proofs.CountCalls.{completes, number_is, seen_as}
 use Rattle.book_counts.proofs.AfterCalls.{binding_call, call_counted}
 use Rattle.book_counts.proofs.Numbers.{few_posted, next_number, numbered_post, numbered_seen}
 use Rattle.book_counts.proofs.Tallies.{length-one_less_for}
@@ -27,14 +27,14 @@ use Rattle.core_book.proofs.book.Book.post.Goals as goal
 use Rattle.core_book.proofs.book.Book.post.Goals.{After-next-arg-1, After-post-arg-1, After-who_is_told-told, After-note}
 
 -- the task stands at the posting
-at_call : (c : After-next-arg-1) → Calls (shelf_of c.self.inside) c.args.rec.now c.task-task.result.0 c.args.k c.task_of-def.result.now c.args.posting
+at_call : (c : After-next-arg-1) → Calls (parts_of c.self.inside) c.args.rec.now c.task-task.result.0 c.args.k c.task_of-def.result.now c.args.posting
 at_call c =
-    calls (shelf_of c.self.inside) c.args.rec.now c.task-task.result.0 c.args.k c.task_of-def.result.now c.args.posting
+    calls (parts_of c.self.inside) c.args.rec.now c.task-task.result.0 c.args.k c.task_of-def.result.now c.args.posting
     c.args.self.now c.args.prog.now c.self.view_is c.requires.same c.requires.stands c.task-task.ensures c.task_of-def.ensures c.requires.at c.requires.posts
 
 index : (c : After-next-arg-1) → c.task-task.result.0 < length c.self.inside.phases.items
 index c =
-    place_within (shelf_of c.self.inside) c.args.rec.now c.task-task.result.0 c.task_of-def.result.now
+    place_within (parts_of c.self.inside) c.args.rec.now c.task-task.result.0 c.task_of-def.result.now
     (phase.At c.args.k) c.self.invariant.kept (at_call c).here
 
 inner : (c : After-next-arg-1) → c.args.k < length c.task_of-def.result.now.body.items
@@ -47,10 +47,10 @@ next-requires c =
     omega arith
 
 -- the request is the posting's own
-nth : (c : After-post-arg-1) → Calls (shelf_of c.self.inside) c.args.rec.now c.task-task.result.0 c.args.k c.task_of-def.result.now
+nth : (c : After-post-arg-1) → Calls (parts_of c.self.inside) c.args.rec.now c.task-task.result.0 c.args.k c.task_of-def.result.now
     c.args.posting
     → c.next.result ≡ nth_at c.task_of-def.result.now c.args.k
-nth c call = next_number (kept_figures {shelf = shelf_of c.self.inside} c.self.invariant) (found call.here) call.at c.next.ensures
+nth c call = next_number (kept_figures {parts = parts_of c.self.inside} c.self.invariant) (found call.here) call.at c.next.ensures
 
 pub post-partner-requires-clause-send : goal.post-partner-requires-clause-send
 post-partner-requires-clause-send c =
@@ -71,7 +71,7 @@ post-partner-requires-clause-fresh c =
 tells : (c : After-who_is_told-told) → told_requests (λ (found : Told). true) c.who_is_told-told.result
     ≡ completed_now c.self.inside.program.value (expects_now c.self.inside.program.value c.self.inside.phases.items c.self.inside.marks) c.post-partner.result
 tells c =
-    let s = shelf_of c.self.inside in
+    let s = parts_of c.self.inside in
     c.who_is_told-told.ensures.told
     ∙ seen_as (λ q z. completed_now q (expects_now q z s.marks) c.post-partner.result) s.program c.args.prog.now s.phases c.deref.result.now
     (same_program s c.args.self.now c.args.prog.now c.self.view_is c.requires.same) c.deref.ensures.value
@@ -79,7 +79,7 @@ tells c =
 -- who is told is a task of the program
 told : (c : After-who_is_told-told) → IfSome c.who_is_told-told.result (λ (found : Told). found.req.task.0 < length c.self.inside.program.value.tasks.items)
 told c =
-    told_exists (kept_figures {shelf = shelf_of c.self.inside} c.self.invariant) c.who_is_told-told.result c.post-partner.result (tells c)
+    told_exists (kept_figures {parts = parts_of c.self.inside} c.self.invariant) c.who_is_told-told.result c.post-partner.result (tells c)
 
 pub lower_bound-requires : goal.lower_bound-requires
 lower_bound-requires c =
@@ -89,12 +89,12 @@ lower_bound-requires c =
 pub lower_waited-requires : goal.lower_waited-requires
 lower_waited-requires c =
     subst (λ (n : ℕ). IfSome c.who_is_told-told.result (λ (found : Told). found.req.task.0 < n))
-    (sym (c.self.invariant.counted.long ∙ phases_counted (shelf_of c.self.inside) c.self.invariant.kept))
+    (sym (c.self.invariant.counted.long ∙ phases_counted (parts_of c.self.inside) c.self.invariant.kept))
     (told (goal.at.lower_waited-requires c).After-who_is_told-told)
 
 pub who_is_told-told-requires-clause-numbered : goal.who_is_told-told-requires-clause-numbered
 who_is_told-told-requires-clause-numbered c =
-    let s = shelf_of c.self.inside in
+    let s = parts_of c.self.inside in
     numbered_seen s.program c.args.prog.now s.phases c.deref.result.now s.posted c.self.invariant.numbered
     (same_program s c.args.self.now c.args.prog.now c.self.view_is c.requires.same) c.deref.ensures.value
 
@@ -113,7 +113,7 @@ add-requires-clause-within c =
 pub add-requires-clause-few : goal.add-requires-clause-few
 add-requires-clause-few c =
     let call = at_call (goal.at.add-requires-clause-few c).After-next-arg-1 in
-    few_posted (kept_figures {shelf = shelf_of c.self.inside} c.self.invariant) (found call.here) call.at
+    few_posted (kept_figures {parts = parts_of c.self.inside} c.self.invariant) (found call.here) call.at
     (inner (goal.at.add-requires-clause-few c).After-next-arg-1) c.next.ensures
 
 pub phase_after-requires-clause-within : goal.phase_after-requires-clause-within
@@ -138,7 +138,7 @@ go-requires-clause-goes_to c = call_follows (at_call (goal.at.go-requires-clause
 
 pub note-requires : goal.note-requires
 note-requires c =
-    entry_room (shelf_of c.self.inside) c.task-task.result.0 c.self.invariant.kept
+    entry_room (parts_of c.self.inside) c.task-task.result.0 c.self.invariant.kept
     (call_may (at_call (goal.at.note-requires c).After-next-arg-1))
 
 pub set-requires : goal.set-requires
@@ -151,7 +151,7 @@ set-requires c =
 
 -- what the calls have answered, and the count that comes of it
 asked : (c : After-who_is_told-told) → c.next.result ≡ nth_at c.task_of-def.result.now c.args.k
-    → Answered (shelf_of c.self.inside) c.args.rec.now c.task-task.result.0 c.args.k c.next.result
+    → Answered (parts_of c.self.inside) c.args.rec.now c.task-task.result.0 c.args.k c.next.result
     (cond (is_complete c.post-partner.new.engine.program c.post-partner.new.engine.exchange (request c.task-task.result.0 c.next.result)) 0 1)
     c.task_of-def.result.now
     c.args.posting c.args.cells.items c.post-partner.new.engine c.post-partner.result
@@ -167,7 +167,7 @@ asked c is_nth = record {
 }
 
 answered : (c : After-note) → c.next.result ≡ nth_at c.task_of-def.result.now c.args.k
-    → Answered (shelf_of c.self.inside) c.args.rec.now c.task-task.result.0 c.args.k c.next.result c.pending-pending.result
+    → Answered (parts_of c.self.inside) c.args.rec.now c.task-task.result.0 c.args.k c.next.result c.pending-pending.result
     c.task_of-def.result.now
     c.args.posting c.args.cells.items c.post-partner.new.engine c.post-partner.result
 answered c is_nth = record {
@@ -193,7 +193,7 @@ tell-requires c = record {
 
 pub invariant_of-self : goal.invariant_of-self
 invariant_of-self c =
-    let s = shelf_of c.self.inside in
+    let s = parts_of c.self.inside in
     let found_now = c.post-partner.result in
     let call = at_call (goal.at.invariant_of-self c).After-next-arg-1 in
     let a = answered (goal.at.invariant_of-self c).After-note (nth (goal.at.invariant_of-self c).After-post-arg-1 call) in
@@ -204,7 +204,7 @@ invariant_of-self c =
     (call_opens c.self.invariant.kept call a c.waits_after-awaited.ensures c.clear.ensures.items c.note_some.ensures.items)
     c.note.ensures.places c.tell.ensures.places (omega (arith, c.clear.ensures.capacity, c.note_some.ensures.places)) in
     let as_before = bound_kept m (posted_bound c.task_of-def.result.now c.args.k (blocks c.args.posting.how) call.here.was) in
-    let f = kept_figures {shelf = s} c.self.invariant in
+    let f = kept_figures {parts = s} c.self.invariant in
     let made = completes c.self.invariant.kept a in
     let x = posting_op c.args.posting _ call.posts in
     record {
@@ -222,7 +222,7 @@ invariant_of-self c =
 
 pub returns-clause-moves : goal.returns-clause-moves
 returns-clause-moves c =
-    let s = shelf_of c.self.inside in
+    let s = parts_of c.self.inside in
     let call = at_call (goal.at.returns-clause-moves c).After-next-arg-1 in
     let a = answered (goal.at.returns-clause-moves c).After-note (nth (goal.at.returns-clause-moves c).After-post-arg-1 call) in
     let m = call_moved c.self.invariant.kept call a {opened_places = vec_capacity c.note_some.new.list} c.set.new.self c.add.new.self

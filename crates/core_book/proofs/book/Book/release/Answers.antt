@@ -4,23 +4,23 @@ use Rattle.std.specs.Prelude.{ℤ, vec_capacity}
 use Rattle.std.proofs.lemmas.Option.{slice_get_within}
 use Rattle.rt_base.specs.declared.data.Phase.TheVariants as phase
 use Rattle.rt_base.specs.declared.data.Status.{Status}
-use Rattle.core_book.proofs.Insides.{shelf_of}
-use Rattle.core_book.proofs.BookLemmas.{status_count}
-use Rattle.core_book.proofs.BookMoves.{left_as}
-use Rattle.core_book.proofs.Moved.{book_after, gone_more, makes_move, still_held}
-use Rattle.core_book.proofs.Held.{entry_room, handed_of, place_within, same_program}
-use Rattle.core_book.proofs.BoundAfter.{bound_kept}
-use Rattle.core_book.proofs.Figured.{kept_figures, found}
+use Rattle.core_book.proofs.Insides.{parts_of}
+use Rattle.book_parts.proofs.BookLemmas.{status_count}
+use Rattle.book_parts.proofs.BookMoves.{left_as}
+use Rattle.book_parts.proofs.Moved.{book_after, gone_more, makes_move, still_held}
+use Rattle.book_parts.proofs.Held.{entry_room, handed_of, place_within, same_program}
+use Rattle.book_parts.proofs.BoundAfter.{bound_kept}
+use Rattle.book_parts.proofs.Figured.{kept_figures, found}
 use Rattle.book_counts.proofs.AfterMoves.{binding_kept, release_counted, some_unreleased}
 use Rattle.book_counts.proofs.Numbers.{numbered_next}
-use Rattle.core_book.proofs.ReleaseLemmas.{Releases, LetsGo, copy_now, releases, late_received, late_told_room, late_count, late_stored, late_tells}
-use Rattle.core_book.proofs.ReleaseLemmas.{release_left, release_stands, saved_now, release_moved, whole_back}
+use Rattle.book_parts.proofs.ReleaseLemmas.{Releases, LetsGo, copy_now, releases, late_received, late_told_room, late_count, late_stored, late_tells}
+use Rattle.book_parts.proofs.ReleaseLemmas.{release_left, release_stands, saved_now, release_moved, whole_back}
 use Rattle.core_book.proofs.book.Book.release.Goals as goal
 use Rattle.core_book.proofs.book.Book.release.Goals.{After-note, After-task_of}
 
 pub count_of-from-requires : goal.count_of-from-requires
 count_of-from-requires c =
-    let few = status_count (shelf_of c.self.inside) c.self.invariant.kept in
+    let few = status_count (parts_of c.self.inside) c.self.invariant.kept in
     let seen = ap (λ (l : List Status). length l) c.deref.ensures.value in
     omega arith
 
@@ -30,9 +30,9 @@ task_of-requires c =
     (ap (slice_get c.args.prog.now.tasks.items) c.task-task.ensures ∙ c.requires.stands.is_def)
 
 -- the task has returned, and may let go
-known : (c : After-task_of) → Releases (shelf_of c.self.inside) c.args.rec.now c.task-task.result.0 c.task_of.result.now
+known : (c : After-task_of) → Releases (parts_of c.self.inside) c.args.rec.now c.task-task.result.0 c.task_of.result.now
 known c =
-    releases (shelf_of c.self.inside) c.args.rec.now c.task-task.result.0 c.task_of.result.now c.args.self.now c.args.prog.now c.self.invariant.kept
+    releases (parts_of c.self.inside) c.args.rec.now c.task-task.result.0 c.task_of.result.now c.args.self.now c.args.prog.now c.self.invariant.kept
     c.self.view_is c.requires.same c.requires.stands c.requires.enabled c.task-task.ensures c.task_of.ensures c.requires.returned
 
 pub take_bound-requires-clause-received : goal.take_bound-requires-clause-received
@@ -52,37 +52,37 @@ count_of-requires c =
 pub index_mut-requires : goal.index_mut-requires
 index_mut-requires c =
     let r = known (goal.at.index_mut-requires c).After-task_of in
-    let within = place_within (shelf_of c.self.inside) c.args.rec.now c.task-task.result.0 c.task_of.result.now phase.Returned c.self.invariant.kept r.here in
+    let within = place_within (parts_of c.self.inside) c.args.rec.now c.task-task.result.0 c.task_of.result.now phase.Returned c.self.invariant.kept r.here in
     let len = c.self.inside.phases.len in
     omega arith
 
 pub overflow_sub-self : goal.overflow_sub-self
 overflow_sub-self c =
     let r = known (goal.at.overflow_sub-self c).After-task_of in
-    let some = some_unreleased (kept_figures {shelf = shelf_of c.self.inside} c.self.invariant) (found r.here) r.here.stands.0 in
+    let some = some_unreleased (kept_figures {parts = parts_of c.self.inside} c.self.invariant) (found r.here) r.here.stands.0 in
     omega arith
 
 pub set-requires : goal.set-requires
 set-requires c =
     let r = known (goal.at.set-requires c).After-task_of in
-    let within = place_within (shelf_of c.self.inside) c.args.rec.now c.task-task.result.0 c.task_of.result.now phase.Returned c.self.invariant.kept r.here in
+    let within = place_within (parts_of c.self.inside) c.args.rec.now c.task-task.result.0 c.task_of.result.now phase.Returned c.self.invariant.kept r.here in
     let long = c.self.invariant.counted.long in
     omega arith
 
 pub release-requires-clause-handed : goal.release-requires-clause-handed
 release-requires-clause-handed c =
     let r = known (goal.at.release-requires-clause-handed c).After-task_of in
-    handed_of (shelf_of c.self.inside) c.args.rec.now c.task-task.result.0 c.task_of.result.now phase.Returned phase.Returned c.self.invariant.kept r.here
+    handed_of (parts_of c.self.inside) c.args.rec.now c.task-task.result.0 c.task_of.result.now phase.Returned phase.Returned c.self.invariant.kept r.here
     r.here.stands.0 (λ e. absurd (cc e))
 
 pub release-requires-clause-held : goal.release-requires-clause-held
 release-requires-clause-held c =
     let r = known (goal.at.release-requires-clause-held c).After-task_of in
-    still_held (shelf_of c.self.inside) c.task-task.result.0 r.here.was c.self.invariant.kept r.here.is_task (rw r.here.stands.0 refl)
+    still_held (parts_of c.self.inside) c.task-task.result.0 r.here.was c.self.invariant.kept r.here.is_task (rw r.here.stands.0 refl)
 
 pub note-requires : goal.note-requires
 note-requires c =
-    entry_room (shelf_of c.self.inside) c.task-task.result.0 c.self.invariant.kept (known (goal.at.note-requires c).After-task_of).may
+    entry_room (parts_of c.self.inside) c.task-task.result.0 c.self.invariant.kept (known (goal.at.note-requires c).After-task_of).may
 
 -- the memory that was lent comes back with what the release has put there
 back : (c : After-note) → take c.self.inside.memory.len (c.save.new.memory ++ drop (length c.save.new.memory) c.self.inside.memory.items) ≡ c.save.new.memory
@@ -97,17 +97,17 @@ unfolding back
 long_back c = ap (λ (z : List ℤ). length z) (back c) ∙ c.save.auto.memory ∙ ap (λ (z : List ℤ). length z) c.deref_mut.ensures.value
 
 -- the record with what was bound in its copy
-stored : (c : After-note) → (r : Releases (shelf_of c.self.inside) c.args.rec.now c.task-task.result.0 c.task_of.result.now)
+stored : (c : After-note) → (r : Releases (parts_of c.self.inside) c.args.rec.now c.task-task.result.0 c.task_of.result.now)
     → c.take_bound.new.rec ≡ record c.args.rec.now { copy = copy_now r }
 stored c r = late_stored c.self.invariant.kept r c.take_bound.ensures.stored
 
 -- what the calls have answered
-goes : (c : After-note) → (r : Releases (shelf_of c.self.inside) c.args.rec.now c.task-task.result.0 c.task_of.result.now)
-    → LetsGo (shelf_of c.self.inside) c.task-task.result.0 c.task_of.result.now r.here.was c.release.new.self
+goes : (c : After-note) → (r : Releases (parts_of c.self.inside) c.args.rec.now c.task-task.result.0 c.task_of.result.now)
+    → LetsGo (parts_of c.self.inside) c.task-task.result.0 c.task_of.result.now r.here.was c.release.new.self
     (take c.self.inside.memory.len (c.save.new.memory ++ drop (length c.save.new.memory) c.self.inside.memory.items)) c.take_bound.new.statuses.items
     c.note.new.list.items c.count_of-from.result (c.count_of.result - c.count_of-from.result) c.clear.new.self.items
 goes c r =
-    let s = shelf_of c.self.inside in
+    let s = parts_of c.self.inside in
     let held = c.args.rec.now in
     let from = c.count_of-from.ensures ∙ ap (λ (l : List Status). length l) c.deref.ensures.value in
     let until = c.count_of.ensures ∙ ap (λ (l : List Status). length l) c.deref-2.ensures.value in
@@ -134,7 +134,7 @@ invariant_of-self c =
     let m = release_moved {status_places = vec_capacity c.take_bound.new.statuses} {opened_places = vec_capacity c.clear.new.self}
     (c.self.inside.unreleased - 1) c.set.new.self c.self.invariant.kept r (goes (goal.at.invariant_of-self c).After-note r) c.note.ensures.places
     c.take_bound.ensures.places (omega (arith, c.clear.ensures.capacity)) in
-    let f = kept_figures {shelf = shelf_of c.self.inside} c.self.invariant in
+    let f = kept_figures {parts = parts_of c.self.inside} c.self.invariant in
     let same = bound_kept m refl in
     record {
       kept = book_after c.self.invariant.kept m;
@@ -152,5 +152,5 @@ returns c =
     (omega (arith, c.clear.ensures.capacity)) in
     makes_move c.self.invariant.kept m r.here.is_def r.here.who r.here.program
     (release_left r (stored noted r) c.go.ensures
-    ∙ sym (left_as (shelf_of c.self.inside) c.args.rec.now c.task-task.result.0 c.task_of.result.now phase.Returned r.here))
+    ∙ sym (left_as (parts_of c.self.inside) c.args.rec.now c.task-task.result.0 c.task_of.result.now phase.Returned r.here))
     (release_stands r (stored noted r) c.go.ensures) c.self.view_is

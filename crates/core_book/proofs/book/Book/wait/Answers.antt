@@ -5,26 +5,26 @@ use Rattle.rt_base.specs.declared.data.ReqNo.{ReqNo}
 use Rattle.rt_base.specs.declared.data.Phase.TheVariants as phase
 use Rattle.rt_base.specs.Operations.{named_requests}
 use Rattle.task_machine.specs.Machine.{wait_move}
-use Rattle.core_book.specs.Kept.{state_now}
-use Rattle.core_book.proofs.Insides.{shelf_of}
-use Rattle.core_book.proofs.Moved.{IsMoved, book_after, gone_more, makes_move}
-use Rattle.core_book.proofs.Held.{entry_room, place_within}
-use Rattle.core_book.proofs.Before.{before_may}
-use Rattle.core_book.proofs.BookMoves.{left_as, shelf_alone}
-use Rattle.core_book.proofs.BoundAfter.{bound_kept}
-use Rattle.core_book.proofs.Figured.{kept_figures, found}
+use Rattle.book_parts.specs.Kept.{state_now}
+use Rattle.core_book.proofs.Insides.{parts_of}
+use Rattle.book_parts.proofs.Moved.{IsMoved, book_after, gone_more, makes_move}
+use Rattle.book_parts.proofs.Held.{entry_room, place_within}
+use Rattle.book_parts.proofs.Before.{before_may}
+use Rattle.book_parts.proofs.BookMoves.{left_as, parts_alone}
+use Rattle.book_parts.proofs.BoundAfter.{bound_kept}
+use Rattle.book_parts.proofs.Figured.{kept_figures, found}
 use Rattle.book_counts.proofs.AfterMoves.{binding_kept, wait_counted}
 use Rattle.book_counts.proofs.Numbers.{numbered_next}
-use Rattle.core_book.proofs.AwaitLemmas.{Awaits, awaits, wait_is, await_few, await_left, await_moved, await_pending, await_posts, await_room}
-use Rattle.core_book.proofs.WaitLemmas.{count_awaited, wait_stands, waiting_in}
+use Rattle.book_parts.proofs.AwaitLemmas.{Awaits, awaits, wait_is, await_few, await_left, await_moved, await_pending, await_posts, await_room}
+use Rattle.book_parts.proofs.WaitLemmas.{count_awaited, wait_stands, waiting_in}
 use Rattle.core_book.proofs.book.Book.wait.Goals as goal
 use Rattle.core_book.proofs.book.Book.wait.Goals.{After-clear, After-note}
 
 -- the task stands at the wait
-known : (c : After-clear) → Awaits (shelf_of c.self.inside) c.args.rec.now c.task-task.result.0 c.args.k c.task_of.result.now false
+known : (c : After-clear) → Awaits (parts_of c.self.inside) c.args.rec.now c.task-task.result.0 c.args.k c.task_of.result.now false
     c.handles_at-handles.result.now
 known c =
-    awaits (shelf_of c.self.inside) c.args.rec.now c.task-task.result.0 c.args.k c.task_of.result.now c.handles_at-handles.result.now
+    awaits (parts_of c.self.inside) c.args.rec.now c.task-task.result.0 c.args.k c.task_of.result.now c.handles_at-handles.result.now
     c.args.self.now c.args.prog.now c.self.view_is c.requires.same c.requires.stands c.task-task.ensures c.task_of.ensures c.requires.at
     (wait_is _ c.requires.waits) (c.handles_at-handles.ensures 0)
 
@@ -45,7 +45,7 @@ open_among-pending-requires c = record {
 
 index : (c : After-clear) → c.task-task.result.0 < length c.self.inside.phases.items
 index c =
-    place_within (shelf_of c.self.inside) c.args.rec.now c.task-task.result.0 c.task_of.result.now (phase.At c.args.k) c.self.invariant.kept (known c).it.here
+    place_within (parts_of c.self.inside) c.args.rec.now c.task-task.result.0 c.task_of.result.now (phase.At c.args.k) c.self.invariant.kept (known c).it.here
 
 pub index_mut-requires : goal.index_mut-requires
 index_mut-requires c =
@@ -60,17 +60,17 @@ set-requires c =
 
 pub note-requires : goal.note-requires
 note-requires c =
-    entry_room (shelf_of c.self.inside) c.task-task.result.0 c.self.invariant.kept
+    entry_room (parts_of c.self.inside) c.task-task.result.0 c.self.invariant.kept
     (before_may (known (goal.at.note-requires c).After-clear).it)
 
 -- the insides after the call
-moved : (c : After-note) → (w : Awaits (shelf_of c.self.inside) c.args.rec.now c.task-task.result.0 c.args.k c.task_of.result.now false
+moved : (c : After-note) → (w : Awaits (parts_of c.self.inside) c.args.rec.now c.task-task.result.0 c.args.k c.task_of.result.now false
     c.handles_at-handles.result.now)
-    → IsMoved (shelf_of c.self.inside) (shelf_alone (shelf_of c.self.inside) c.task-task.result.0 (phase.In c.args.k) c.note.new.list.items
+    → IsMoved (parts_of c.self.inside) (parts_alone (parts_of c.self.inside) c.task-task.result.0 (phase.In c.args.k) c.note.new.list.items
     c.note_open.new.opened.items (vec_capacity c.note.new.list) (vec_capacity c.note_open.new.opened) c.set.new.self c.self.inside.marks
     c.self.inside.bound c.self.inside.incomplete) c.task-task.result.0 w.it.here.was (waiting_in c.args.k w.it.here.was)
-    (wait_move (shelf_of c.self.inside).program (state_now (shelf_of c.self.inside)) c.task-task.result.0 w.it.here.was c.args.k
-    (named_requests c.task-task.result.0 w.parts.handles.items))
+    (wait_move (parts_of c.self.inside).program (state_now (parts_of c.self.inside)) c.task-task.result.0 w.it.here.was c.args.k
+    (named_requests c.task-task.result.0 w.asked.handles.items))
 moved c w =
     let b = c.self.inside in
     await_moved c.self.invariant.kept w (waiting_in c.args.k w.it.here.was) c.set.new.self b.marks b.bound b.incomplete refl refl refl
@@ -81,7 +81,7 @@ pub invariant_of-self : goal.invariant_of-self
 invariant_of-self c =
     let w = known (goal.at.invariant_of-self c).After-clear in
     let m = moved (goal.at.invariant_of-self c).After-note w in
-    let f = kept_figures {shelf = shelf_of c.self.inside} c.self.invariant in
+    let f = kept_figures {parts = parts_of c.self.inside} c.self.invariant in
     let as_before = bound_kept m refl in
     record {
       kept = book_after c.self.invariant.kept m;
@@ -93,7 +93,7 @@ invariant_of-self c =
 
 pub returns-clause-moves : goal.returns-clause-moves
 returns-clause-moves c =
-    let s = shelf_of c.self.inside in
+    let s = parts_of c.self.inside in
     let w = known (goal.at.returns-clause-moves c).After-clear in
     let m = moved (goal.at.returns-clause-moves c).After-note w in
     makes_move c.self.invariant.kept m w.it.here.is_def w.it.here.who w.it.here.program

@@ -1,7 +1,7 @@
 -- The book after an offer, and what is known where it has nothing to offer.
 use Rattle.std.proofs.Common.{ℕ, refl, ap, sym, ◌∙◌, subst}
 use Rattle.rt_base.specs.declared.data.Program.{Program}
-use Rattle.core_book.specs.Ledger.{Ledger, IsReady}
+use Rattle.book_parts.specs.Ledger.{Ledger, IsReady}
 use Rattle.pass_table.specs.Passes.{NoteIs}
 use Rattle.shared_lists.specs.Sound.{IsPoller}
 use Rattle.shared_lists.specs.Said.{NoneLeft}

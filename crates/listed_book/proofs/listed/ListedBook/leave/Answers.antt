@@ -1,6 +1,6 @@
 -- The book after a leave, with its list.
 use Rattle.std.proofs.Common.{◌^◌, ◌-◌, ◌<◌, length, sym, subst}
-use Rattle.core_book.specs.Ledger.{IsInOperation}
+use Rattle.book_parts.specs.Ledger.{IsInOperation}
 use Rattle.pass_table.specs.Passes.{NoteIs}
 use Rattle.listed_book.proofs.Insides.{insides_of}
 use Rattle.listed_book.proofs.Keeping.{has_room}

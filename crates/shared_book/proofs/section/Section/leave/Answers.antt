@@ -1,5 +1,5 @@
 use Rattle.std.proofs.Common.{sym, ap, ◌∙◌, subst}
-use Rattle.core_book.specs.Ledger.{IsInOperation}
+use Rattle.book_parts.specs.Ledger.{IsInOperation}
 use Rattle.turn_table.specs.declared.hands.Door.TheVariants.{Events}
 use Rattle.shared_tasks.specs.Values.{LiveIs}
 use Rattle.shared_tasks.specs.Keeping.{IsAble}

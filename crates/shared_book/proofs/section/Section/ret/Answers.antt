@@ -2,7 +2,7 @@ use Rattle.std.proofs.Common.{◌≡◌, ℕ, length, sym, ap, ◌∙◌, subst}
 use Rattle.rt_base.specs.declared.data.Phase.TheVariants as phase
 use Rattle.rt_base.specs.declared.data.Program.{Program}
 use Rattle.rt_base.specs.State.{State}
-use Rattle.core_book.specs.Ledger.{bound_in}
+use Rattle.book_parts.specs.Ledger.{bound_in}
 use Rattle.shared_lists.specs.Deeds.{state_seen}
 use Rattle.turn_table.specs.declared.hands.Door.TheVariants.{Events}
 use Rattle.shared_tasks.specs.Values.{LiveIs}
