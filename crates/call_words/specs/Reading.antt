@@ -1,5 +1,5 @@
 -- How the words are read. No public clause cites this module.
-use Rattle.std.specs.Prelude.{◌≡◌, ◌≤◌, ℕ, List, [], ◌∷◌, ◌++◌, Option, Some, None}
+use Rattle.std.specs.Prelude.{◌≤◌, ℕ, List, [], ◌∷◌, ◌++◌, Option, Some, None}
 use Rattle.std.specs.Option.{option_map, option_copied}
 use Rattle.call_words.specs.declared.options.Takes.{Takes}
 use Rattle.call_words.specs.declared.options.Takes.TheVariants as takes
@@ -10,12 +10,12 @@ use Rattle.call_words.specs.Words.{Item, given_or}
 
 -- a row of the table as the code has it
 abbrev pub choice_of : read_choice.Choice → Choice
-choice_of row = record { name = row.name.now; takes = row.takes; default = defaults row.in_run }
+choice_of row = record { name = row.name.now; takes = row.takes; default = defaults row.in_run row.in_heat }
 
 -- an option may have this value
 abbrev pub Lies : Takes → ℕ → Type 0
 Lies (takes.Number least most) value = (least ≤ value) × (value ≤ most)
-Lies takes.Flag value = value ≡ 1
+Lies takes.Flag value = value ≤ 1
 
 -- an item as the reader has it: borrowed texts
 abbrev pub item_of : Part → Item

@@ -1,17 +1,21 @@
 -- The words of a call, and the command that they give (this project's).
-use Rattle.std.specs.Prelude.{ℕ, ◌+◌, ◌-◌, ◌*◌, ◌==◌, ◌&&◌, ◌≤◌, nat_le, Bool, true, false, List, [], ◌∷◌, map, length, take, drop, position}
+use Rattle.std.specs.Prelude.{ℕ, ◌+◌, ◌-◌, ◌*◌, ◌==◌, ◌&&◌, ◌||◌, ◌≤◌, nat_le, Bool, true, false, List, [], ◌∷◌, map, length, take, drop, position}
 use Rattle.std.specs.Prelude.{Option, Some, None, is_some, codes, String, string_bytes, if◌then◌else◌}
 use Rattle.std.specs.List.{fold, filter, list_all, list_any}
 use Rattle.std.specs.Option.{option_and_then, option_map}
 use Rattle.std.specs.Char.{is_ascii_digit}
 use Rattle.std.specs.Str.{bytes_eq}
 use Rattle.std.specs.declared.alloc.Global.{Global}
+use Rattle.call_words.specs.declared.command.RunOptions.{RunOptions}
+use Rattle.call_words.specs.declared.command.HeatOptions.{HeatOptions}
 use Rattle.call_words.specs.declared.command.Command.{Command}
+use Rattle.call_words.specs.declared.command.Command.TheVariants as asked
+use Rattle.call_words.specs.declared.options.OptionName.TheVariants as option
 use Rattle.call_words.specs.declared.options.Verb.{Verb}
 use Rattle.call_words.specs.declared.options.Verb.TheVariants as verb
 use Rattle.call_words.specs.declared.options.Takes.{Takes}
 use Rattle.call_words.specs.declared.options.Takes.TheVariants as takes
-use Rattle.call_words.specs.Options.{Choice, rank_count, eager_limit, table}
+use Rattle.call_words.specs.Options.{Choice, row, options}
 
 -- an item: the name of an option, and the text of its value, which a flag lacks
 pub record Item : Type 0 where
@@ -22,6 +26,7 @@ pub record Item : Type 0 where
 abbrev pub number_behind : ℕ → List ℕ → ℕ
 number_behind number digits = fold (λ number digit. number * 10 + (digit - 48)) number digits
 
+-- the number that decimal digits write
 abbrev pub number_of : List ℕ → ℕ
 number_of digits = number_behind 0 digits
 
@@ -48,13 +53,14 @@ abbrev pub cut_at : List ℕ → Option ℕ → Option Item
 cut_at word None = None
 cut_at word (Some i) = Some (record { name = take i word; value = Some (drop (i + 1) word) })
 
+-- the item that one word with `=` is, cut at its first `=`
 abbrev pub cut : List ℕ → Option Item
 cut word = cut_at word (position (λ byte. byte == 61) word)
 
 -- the item that one word is: a flag of the command, or a word with `=`
 abbrev pub item_of_word : Verb → List ℕ → Option Item
 item_of_word verb word =
-    if list_any (λ choice. has_name verb word choice && is_flag choice.takes) table then Some (record { name = word; value = None }) else cut word
+    if list_any (λ option. has_name verb word (row option) && is_flag (row option).takes) options then Some (record { name = word; value = None }) else cut word
 
 -- one more item before the others
 abbrev pub with_item : Item → Option (List Item) → Option (List Item)
@@ -90,26 +96,53 @@ given_or takes default [] = default
 given_or takes default (value ∷ []) = value_by takes value
 given_or takes default (value ∷ second ∷ values) = None
 
+-- the value of an option of a command: what the items give to it, or its default
 abbrev pub setting : Verb → Choice → List Item → Option ℕ
 setting verb choice items = given_or choice.takes (choice.default verb) (given choice items)
 
 -- the item names an option of the command
 abbrev pub is_known : Verb → Item → Bool
-is_known verb item = list_any (has_name verb item.name) table
+is_known verb item = list_any (λ option. has_name verb item.name (row option)) options
 
-abbrev pub command_with : Option ℕ → Option ℕ → Option Command
-command_with None limit = None
-command_with (Some count) None = None
-command_with (Some count) (Some limit) = Some (record { ranks = count; eager = limit })
+-- the options of a run with these values, if they all have one; a flag is on where its value is 1
+abbrev pub run_options_with : Option ℕ → Option ℕ → Option ℕ → Option RunOptions
+run_options_with (Some count) (Some limit) (Some told) = Some (record { ranks = count; eager = limit; trace = told == 1 })
+run_options_with None limit told = None
+run_options_with (Some count) None told = None
+run_options_with (Some count) (Some limit) None = None
 
--- the command that items give: each names an option, and each option has a value
+-- the options of a run that items give
+abbrev pub run_options : Verb → List Item → Option RunOptions
+run_options verb items =
+    run_options_with (setting verb (row option.Ranks) items) (setting verb (row option.Eager) items) (setting verb (row option.Trace) items)
+
+-- the sizes of the heat text with these values, if they all have one
+abbrev pub heat_options_with : Option ℕ → Option ℕ → Option ℕ → Option ℕ → Option HeatOptions
+heat_options_with (Some blocks) (Some cells) (Some steps) (Some seed) = Some (record { blocks = blocks; cells = cells; steps = steps; seed = seed })
+heat_options_with None cells steps seed = None
+heat_options_with (Some blocks) None steps seed = None
+heat_options_with (Some blocks) (Some cells) None seed = None
+heat_options_with (Some blocks) (Some cells) (Some steps) None = None
+
+-- the sizes of the heat text that items give
+abbrev pub heat_options : Verb → List Item → Option HeatOptions
+heat_options verb items =
+    heat_options_with (setting verb (row option.Blocks) items) (setting verb (row option.Cells) items) (setting verb (row option.Steps) items)
+    (setting verb (row option.Seed) items)
+
+-- the command with these options, if it has those that it needs
+abbrev pub command_with : Verb → Option RunOptions → Option HeatOptions → Option Command
+command_with verb.Run runs sizes = option_map (λ one. asked.Run one) runs
+command_with verb.Heat runs sizes = option_and_then (λ one. option_map (λ other. asked.Heat one other) sizes) runs
+
+-- the command that items give: each names an option, and each option that it has has a value
 abbrev pub command_of_items : Verb → List Item → Option Command
 command_of_items verb items =
-    if list_all (is_known verb) items then command_with (setting verb rank_count items) (setting verb eager_limit items) else None
+    if list_all (is_known verb) items then command_with verb (run_options verb items) (heat_options verb items) else None
 
 -- the command that a word names
 abbrev pub verb_of : List ℕ → Option Verb
-verb_of word = if bytes_eq word (codes "run") then Some verb.Run else None
+verb_of word = if bytes_eq word (codes "run") then Some verb.Run else if bytes_eq word (codes "heat") then Some verb.Heat else None
 
 -- the command that texts give: its name, and items in any order
 abbrev pub command_of_texts : List (List ℕ) → Option Command
@@ -121,6 +154,20 @@ command_of_texts (first ∷ words) =
 unfoldable pub command : List (String Global) → Option Command
 command words = command_of_texts (map string_bytes words)
 
--- the command lies in the range of its options
+-- the first word names a command that runs a program, whatever stands behind it
+unfoldable pub needs_run : List (String Global) → Bool
+needs_run [] = false
+needs_run (first ∷ words) = bytes_eq (string_bytes first) (codes "run") || bytes_eq (string_bytes first) (codes "heat")
+
+-- the options lie in their ranges
+abbrev pub IsRunInRange : RunOptions → Type 0
+IsRunInRange one = (1 ≤ one.ranks) × (one.ranks ≤ 64) × (one.eager ≤ 16777216)
+
+-- the sizes of the heat solver lie in their ranges
+abbrev pub IsHeatInRange : HeatOptions → Type 0
+IsHeatInRange one = (1 ≤ one.blocks) × (one.blocks ≤ 1024) × (1 ≤ one.cells) × (one.cells ≤ 65536) × (one.steps ≤ 10000)
+
+-- the command lies in the ranges of its options
 abbrev pub IsInRange : Command → Type 0
-IsInRange asked = (1 ≤ asked.ranks) × (asked.ranks ≤ 64) × (asked.eager ≤ 16777216)
+IsInRange (asked.Run one) = IsRunInRange one
+IsInRange (asked.Heat one sizes) = IsRunInRange one × IsHeatInRange sizes

@@ -8,4 +8,4 @@ mod options;
 #[cfg(test)]
 mod tests;
 
-pub use command::{Command, command_of};
+pub use command::{Command, HeatOptions, RunOptions, command_of, needs_run};

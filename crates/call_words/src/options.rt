@@ -1,9 +1,9 @@
 //! The table of options.
-ghost use Rattle.std.specs.Prelude.{◌≡◌, ◌&&◌, List, IfSome, is_some};
+ghost use Rattle.std.specs.Prelude.{◌≡◌, ◌&&◌, Some, IfSome};
 ghost use Rattle.std.specs.List.{list_any};
 ghost use Rattle.std.specs.Option.{option_copied};
 ghost use Rattle.std.specs.Str.{bytes_eq};
-ghost use Rattle.call_words.specs.Options.{rank_count, eager_limit, table};
+ghost use Rattle.call_words.specs.Options.{defaults, row, options};
 ghost use Rattle.call_words.specs.Words.{has_name, is_flag, value_by, verb_of};
 ghost use Rattle.call_words.specs.Reading.{choice_of, Lies};
 
@@ -14,7 +14,39 @@ use crate::numbers::value_in;
 pub enum Verb {
     /// To run a text.
     Run,
+    /// To run the text of the heat solver.
+    Heat,
 }
+
+/// An option.
+#[derive(Clone, Copy, Debug, PartialEq, Eq)]
+pub enum OptionName {
+    /// The number of ranks.
+    Ranks,
+    /// The eager limit, in cells.
+    Eager,
+    /// That the report has a trace.
+    Trace,
+    /// The seed of the heat text.
+    Seed,
+    /// How many blocks a rank has in the heat text.
+    Blocks,
+    /// How many cells a block has in the heat text.
+    Cells,
+    /// How many steps the heat text makes.
+    Steps,
+}
+
+// The options, in the order of the table.
+const OPTIONS: [OptionName; 7] = [
+    OptionName::Ranks,
+    OptionName::Eager,
+    OptionName::Trace,
+    OptionName::Seed,
+    OptionName::Blocks,
+    OptionName::Cells,
+    OptionName::Steps,
+];
 
 /// What stands behind the name of an option.
 #[derive(Clone, Copy, Debug, PartialEq, Eq)]
@@ -32,34 +64,58 @@ pub struct Choice {
     name: &'static str,
     takes: Takes,
     in_run: Option<u32>,
+    in_heat: Option<u32>,
 }
 
-/// The number of ranks.
-pub fn rank_count() -> Choice
-    ensures { choice_of result ≡ rank_count }
+// The row of a number of this range, with its defaults in `run` and in `heat`.
+fn number(
+    name: &'static str,
+    least: u32,
+    most: u32,
+    in_run: Option<u32>,
+    in_heat: Option<u32>,
+) -> Choice
+    ensures { choice_of result ≡ record { name = name.now; takes = Takes.Number least most; default = defaults in_run in_heat } }
 {
     Choice {
-        name: "--ranks",
-        takes: Takes::Number { least: 1, most: 64 },
-        in_run: Some(1),
+        name,
+        takes: Takes::Number { least, most },
+        in_run,
+        in_heat,
     }
 }
 
-/// The eager limit, in cells.
-pub fn eager_limit() -> Choice
-    ensures { choice_of result ≡ eager_limit }
+// The row of a flag that is off where it is not given.
+fn flag(name: &'static str) -> Choice
+    ensures { choice_of result ≡ record { name = name.now; takes = Takes.Flag; default = defaults (Some 0) (Some 0) } }
 {
     Choice {
-        name: "--eager",
-        takes: Takes::Number {
-            least: 0,
-            most: 16_777_216,
-        },
-        in_run: Some(64),
+        name,
+        takes: Takes::Flag,
+        in_run: Some(0),
+        in_heat: Some(0),
     }
 }
 
-fn is_word(bytes: &[u8], word: &str) -> bool
+impl OptionName {
+    /// The row of the option.
+    pub fn row(self) -> Choice
+        ensures { choice_of result ≡ row self }
+    {
+        match self {
+            OptionName::Ranks => number("--ranks", 1, 64, Some(1), Some(2)),
+            OptionName::Eager => number("--eager", 0, 16_777_216, Some(64), Some(64)),
+            OptionName::Trace => flag("--trace"),
+            OptionName::Seed => number("--seed", 0, 4_294_967_295, None, Some(1)),
+            OptionName::Blocks => number("--blocks", 1, 1_024, None, Some(4)),
+            OptionName::Cells => number("--cells", 1, 65_536, None, Some(1_024)),
+            OptionName::Steps => number("--steps", 0, 10_000, None, Some(10)),
+        }
+    }
+}
+
+/// The bytes are this word.
+pub fn is_word(bytes: &[u8], word: &str) -> bool
     ensures { result ≡ bytes_eq bytes.now word.now }
 {
     bytes == word.as_bytes()
@@ -103,6 +159,7 @@ impl Choice {
     {
         match verb {
             Verb::Run => self.in_run,
+            Verb::Heat => self.in_heat,
         }
     }
 
@@ -130,16 +187,20 @@ impl Choice {
 
 /// An option of the command has this name.
 pub fn is_known(verb: Verb, name: &[u8]) -> bool
-    ensures { result ≡ list_any (has_name verb name.now) table }
+    ensures { result ≡ list_any (λ option. has_name verb name.now (row option)) options }
 {
-    rank_count().has_name(verb, name) || eager_limit().has_name(verb, name)
+    OPTIONS
+        .iter()
+        .any(|option| option.row().has_name(verb, name))
 }
 
 /// The word is a flag of the command.
 pub fn is_flag_word(verb: Verb, word: &[u8]) -> bool
-    ensures { result ≡ list_any (λ choice. has_name verb word.now choice && is_flag choice.takes) table }
+    ensures { result ≡ list_any (λ option. has_name verb word.now (row option) && is_flag (row option).takes) options }
 {
-    rank_count().is_flag_word(verb, word) || eager_limit().is_flag_word(verb, word)
+    OPTIONS
+        .iter()
+        .any(|option| option.row().is_flag_word(verb, word))
 }
 
 /// The command that a word names.
@@ -148,6 +209,8 @@ pub fn verb_of(word: &[u8]) -> Option<Verb>
 {
     if is_word(word, "run") {
         Some(Verb::Run)
+    } else if is_word(word, "heat") {
+        Some(Verb::Heat)
     } else {
         None
     }

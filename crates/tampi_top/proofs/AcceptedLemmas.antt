@@ -6,7 +6,7 @@ use Rattle.task_tree.specs.declared.tree.Stmt.{Stmt}
 use Rattle.task_tree.specs.Blocks.{Block, Top, written, Nested}
 use Rattle.task_parse.specs.Trees.{IsTree, IsReason}
 use Rattle.task_parse.specs.declared.refusal.ParseRefusal.{ParseRefusal}
-use Rattle.call_words.specs.declared.command.Command.{Command}
+use Rattle.call_words.specs.declared.command.RunOptions.{RunOptions}
 use Rattle.tampi_top.specs.declared.accepted.Unaccepted.{Unaccepted}
 use Rattle.tampi_top.specs.declared.accepted.Unaccepted.TheVariants as unaccepted
 use Rattle.tampi_top.specs.Accepted.{said_by, Unrolls}
@@ -16,7 +16,7 @@ use Rattle.tampi_top.specs.Whys.{IsFoundOf, IsFound}
 spelled_by : (text : List ℕ) (stmts : List Stmt) (whole : Block) → IsTree text stmts → written whole ≡ stmts → IsTree text (written whole)
 spelled_by text stmts whole tree is = subst (IsTree text) (sym is) tree
 
-found_by : (asked : Command) (text : List ℕ) (whole : Block) (result : Result Program Unaccepted) → IsTree text (written whole) → Nested 64 Top whole
+found_by : (asked : RunOptions) (text : List ℕ) (whole : Block) (result : Result Program Unaccepted) → IsTree text (written whole) → Nested 64 Top whole
     → IsFoundOf whole asked result → IsFound asked text result
 found_by asked text whole (Ok program) spelled nested found = record { whole = whole; spelled = spelled; nested = nested; unrolled = found }
 found_by asked text whole (Err (unaccepted.Fault number kind)) spelled nested found =
@@ -25,7 +25,7 @@ found_by asked text whole (Err (unaccepted.Limit which)) spelled nested found = 
 found_by asked text whole (Err unaccepted.Memory) spelled nested found = tt
 
 -- what was found of the tree is found of the text
-pub found_from : (asked : Command) (text : List ℕ) (stmts : List Stmt) (result : Result Program Unaccepted) → IsTree text stmts
+pub found_from : (asked : RunOptions) (text : List ℕ) (stmts : List Stmt) (result : Result Program Unaccepted) → IsTree text stmts
     → ((whole : Block) → written whole ≡ stmts → IsFoundOf whole asked result) → IsFound asked text result
 found_from asked text stmts result tree found =
     let blocks = tree.1 in

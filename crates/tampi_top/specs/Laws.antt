@@ -5,30 +5,40 @@ use Rattle.rt_base.specs.declared.data.Entry.{Entry}
 use Rattle.rt_base.specs.declared.data.Program.{Program}
 use Rattle.rt_base.specs.Outside.{Rose}
 use Rattle.call_words.specs.declared.command.Command.{Command}
-use Rattle.tampi_top.specs.declared.ending.Verdict.{Verdict}
-use Rattle.tampi_top.specs.declared.ending.Ending.{Ending}
-use Rattle.tampi_top.specs.declared.ending.Ending.TheVariants as ending
-use Rattle.tampi_top.specs.declared.ending.Refusal.{Refusal}
+use Rattle.call_words.specs.declared.command.Command.TheVariants as asked
+use Rattle.heat_text.specs.Heat.{heat_text}
+use Rattle.call_ends.specs.declared.ending.Verdict.{Verdict}
+use Rattle.call_ends.specs.declared.ending.Ending.{Ending}
+use Rattle.call_ends.specs.declared.ending.Ending.TheVariants as ending
+use Rattle.call_ends.specs.declared.ending.Refusal.{Refusal}
 use Rattle.call_words.specs.Words.{command}
 use Rattle.tampi_top.specs.Accepted.{IsProgramText}
-use Rattle.tampi_top.specs.Due.{Call, IsRefusedText, IsDue}
+use Rattle.tampi_top.specs.Due.{Call, options_of, IsRefusedText, IsDue}
 
--- the words of a call give this command, and its source tells this text of at most 1,048,576 bytes, at which no read failed
-pub record IsGiven (call : Call) (asked : Command) (text : List ℕ) : Type 0 where
-  pub is_asked : command call.words ≡ Some asked
-  pub told : call.given ≡ Some text
-  pub short : length text ≤ 1048576
-  pub no_fault : ¬ Rose call.before call.now
+-- what a call is given to run: for `run` the text that its source tells, at most 1,048,576 bytes at which no read failed; for `heat` the heat text
+abbrev pub IsGivenText : Call → Command → List ℕ → Type 0
+IsGivenText call (asked.Run options) text = (call.given ≡ Some text) × (length text ≤ 1048576) × ¬ Rose call.before call.now
+IsGivenText call (asked.Heat options sizes) text = text ≡ heat_text sizes.blocks sizes.cells sizes.steps sizes.seed
 
--- a told text of a command that says a program is run, and was read to its end
+-- the words of a call give this command, and this is the text that it is given to run
+pub record IsGiven (call : Call) (one : Command) (text : List ℕ) : Type 0 where
+  pub is_asked : command call.words ≡ Some one
+  pub is_text : IsGivenText call one text
+
+-- what is left of the input: nothing where it is run, and else all of it
+abbrev pub IsLeft : Call → Command → Type 0
+IsLeft call (asked.Run options) = call.left ≡ Some []
+IsLeft call (asked.Heat options sizes) = call.left ≡ call.given
+
+-- a text of a command that says a program is run, and an input that is read was read to its end
 abbrev pub ProgramsAreRun : Type 0
 ProgramsAreRun =
     (call : Call) (ends : Ending) (entries : List Entry) (statuses : List Status) (written : List ℕ) → IsDue call ends entries statuses written
-    → (asked : Command) (text : List ℕ) (program : Program) → IsGiven call asked text → IsProgramText asked text program
-    → (outcome : Verdict) × (ends ≡ ending.Ran outcome) × (call.left ≡ Some [])
+    → (one : Command) (text : List ℕ) (program : Program) → IsGiven call one text → IsProgramText (options_of one) text program
+    → (outcome : Verdict) × (ends ≡ ending.Ran outcome) × IsLeft call one
 
--- a told text with a fault, or a limit that it meets first, is refused so
+-- a text with a fault, or a limit that it meets first, is refused so
 abbrev pub TextsAreRefused : Type 0
 TextsAreRefused =
     (call : Call) (ends : Ending) (entries : List Entry) (statuses : List Status) (written : List ℕ) → IsDue call ends entries statuses written
-    → (asked : Command) (text : List ℕ) (why : Refusal) → IsGiven call asked text → IsRefusedText asked text why → ends ≡ ending.Refused why
+    → (one : Command) (text : List ℕ) (why : Refusal) → IsGiven call one text → IsRefusedText (options_of one) text why → ends ≡ ending.Refused why

@@ -1,6 +1,4 @@
 pub mod Input
-pub mod Report
-pub mod Ending
 pub mod Accepted
 pub mod Due
 pub mod Decided

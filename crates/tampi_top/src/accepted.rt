@@ -4,9 +4,9 @@ ghost use Rattle.rt_base.specs.declared.data.Program.{Program};
 ghost use Rattle.rt_base.specs.WellFormed.{WellFormed};
 ghost use Rattle.task_tree.specs.Blocks.{Block, Top, written, Nested};
 ghost use Rattle.tampi_top.specs.Whys.{IsFoundOf, IsFound};
-ghost use Rattle.call_words.specs.Words.{IsInRange};
+ghost use Rattle.call_words.specs.Words.{IsRunInRange};
 
-use call_words::Command;
+use call_words::RunOptions;
 use rt_base::{FaultKind, LimitName, Program};
 use std::alloc::Global;
 use task_expand::{ExpandRefusal, expand};
@@ -24,8 +24,8 @@ pub enum Unaccepted {
 }
 
 // The program that the tree says.
-fn unrolled(alloc: Global, tree: &Tree, asked: Command) -> Result<Program, Unaccepted>
-    requires range { IsInRange asked }
+fn unrolled(alloc: Global, tree: &Tree, asked: RunOptions) -> Result<Program, Unaccepted>
+    requires range { IsRunInRange asked }
     ensures found { (whole : Block) → written whole ≡ tree.now.items → IsFoundOf whole asked result }
     ensures well_formed { (whole : Block) → written whole ≡ tree.now.items → Nested 64 Top whole → IfOk result (λ program. WellFormed program) }
 {
@@ -37,10 +37,10 @@ fn unrolled(alloc: Global, tree: &Tree, asked: Command) -> Result<Program, Unacc
     }
 }
 
-/// The program that the text says, for the command's ranks and eager limit.
-pub fn program_of(alloc: Global, text: &[u8], asked: Command) -> Result<Program, Unaccepted>
+/// The program that the text says, for the ranks and the eager limit of these options.
+pub fn program_of(alloc: Global, text: &[u8], asked: RunOptions) -> Result<Program, Unaccepted>
     requires short { length text.now ≤ 1048576 }
-    requires range { IsInRange asked }
+    requires range { IsRunInRange asked }
     ensures found { IsFound asked text.now result }
     ensures well_formed { IfOk result (λ program. WellFormed program) }
 {

@@ -3,15 +3,12 @@
 
 mod accepted;
 mod decided;
-mod ending;
 pub mod laws;
 mod reading;
-mod refusing;
-mod report;
-mod run;
 mod top;
-mod writing;
 
+pub use call_words::needs_run;
+pub use heat_text::heat_text;
 pub use top::{Outcome, tampi};
 
 #[cfg(test)]

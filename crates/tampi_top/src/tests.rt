@@ -43,7 +43,7 @@ pub(crate) fn outcome_of<R: Threads + Wait + Sync>(
 #[test]
 fn a_text_is_run_and_reported(rt: HostRuntime) -> Result<(), Fail> {
     let alloc = rt.alloc();
-    let rows: [(&str, &[u8], u8, &[u8], usize); 11] = [
+    let rows: [(&str, &[u8], u8, &[u8], usize); 12] = [
         ("run", b"", 0, b"finished\n", 0),
         ("run --ranks=02", b"", 0, b"finished\n", 0),
         ("run", TWO_CELLS, 0, b"finished\n0 u 7 7\n", 3),
@@ -73,15 +73,63 @@ fn a_text_is_run_and_reported(rt: HostRuntime) -> Result<(), Fail> {
         ("run", FILLED_AND_SENT, 0, b"finished\n0 a 4 4\n", 7),
         ("run --eager 0", NO_CELL, 0, b"finished\n", 5),
         ("run", b"array w, 0\nshow w\n", 0, b"finished\n0 w\n", 0),
+        (
+            "run --trace --eager 3",
+            FILLED_AND_SENT,
+            0,
+            b"finished\n0 a 4 4\n%trace 1 1 1 3\nstart 0\ncall 0 1 0\nleave 0 1\ncall 0 2 0\nleave 0 2 0 3 1 0\nreturn 0\nrelease 0\n",
+            7,
+        ),
     ];
     for (words, text, status, told, entries) in rows {
         let mut input = MemSource::new(text.to_vec(alloc)?);
-        let mut out = MemSink::new(alloc, 100)?;
+        let mut out = MemSink::new(alloc, 200)?;
         let outcome = outcome_of(&rt, alloc, words, &mut input, &mut out)?;
         assert_eq!(rt; outcome.status, status);
         assert_eq!(rt; out.bytes(), told);
         assert_eq!(rt; outcome.history.entries.len(), entries);
         assert_eq!(rt; input.rest().len(), 0);
+    }
+    Ok(())
+}
+
+#[test]
+fn the_heat_solver_is_run_and_nothing_is_read(rt: HostRuntime) -> Result<(), Fail> {
+    let alloc = rt.alloc();
+    let rows: [(&str, u8, &[u8]); 5] = [
+        (
+            "heat --ranks 1 --blocks 1 --cells 2 --steps 1",
+            0,
+            b"finished\n0 s 3 1 2\n",
+        ),
+        (
+            "heat --blocks 1 --cells 2 --steps 1",
+            0,
+            b"finished\n0 s 254 1 253\n1 s 1505 752 753\n",
+        ),
+        (
+            "heat --ranks 2 --blocks 1 --cells 2 --steps 1 --eager 0",
+            0,
+            b"finished\n0 s 254 1 253\n1 s 1505 752 753\n",
+        ),
+        (
+            "heat --blocks 1024 --cells 65536",
+            8,
+            b"limit cells 16777216\n",
+        ),
+        (
+            "heat --steps 2000 --blocks 8 --cells 1",
+            8,
+            b"limit tasks 65536\n",
+        ),
+    ];
+    for (words, status, told) in rows {
+        let mut input = MemSource::new(TWO_CELLS.to_vec(alloc)?);
+        let mut out = MemSink::new(alloc, 100)?;
+        let outcome = outcome_of(&rt, alloc, words, &mut input, &mut out)?;
+        assert_eq!(rt; outcome.status, status);
+        assert_eq!(rt; out.bytes(), told);
+        assert_eq!(rt; input.rest(), TWO_CELLS);
     }
     Ok(())
 }
@@ -98,7 +146,7 @@ fn words_that_give_no_command_read_nothing(rt: HostRuntime) -> Result<(), Fail> 
         "run --ranks",
         "run --ranks 00000000002",
         "run --eager 16777217",
-        "run --trace",
+        "run --trace 1",
         "run --",
         "fly",
         "",

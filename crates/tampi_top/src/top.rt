@@ -3,23 +3,18 @@ ghost use Rattle.std.specs.Prelude.{◌≡◌, ◌≢◌, ◌≤◌, ℕ, List, 
 ghost use Rattle.rt_base.specs.declared.data.Status.{Status};
 ghost use Rattle.rt_base.specs.Outside.{Rose, AppendsFront};
 ghost use Rattle.std.specs.Io.KnownBytes.{Appends};
-ghost use Rattle.tampi_top.specs.declared.ending.Ending.{Ending};
-ghost use Rattle.tampi_top.specs.declared.ending.Ending.TheVariants as ending;
-ghost use Rattle.tampi_top.specs.Ending.{status_of, verdict_status, refusal_status, refusal_text};
+ghost use Rattle.call_ends.specs.declared.ending.Ending.{Ending};
+ghost use Rattle.call_ends.specs.declared.ending.Ending.TheVariants as ending;
+ghost use Rattle.call_ends.specs.Ending.{status_of, verdict_status, refusal_status, refusal_text};
 ghost use Rattle.tampi_top.specs.Due.{Call, IsDue};
+ghost use Rattle.call_ends.specs.Runs.{report_text, HasEnd};
 
 use crate::decided::{Due, due_of};
-use crate::ending::{Refusal, refusal_status, verdict_status};
-use crate::refusing::line_of;
-use crate::run::Run;
-use crate::writing::write_text;
-use rt_base::{ByteSink, ByteSource, Entries, Gate, History, Put, Statuses};
+use call_ends::{Refusal, Run, write_refusal, write_run};
+use rt_base::{ByteSink, ByteSource, Entries, Gate, History, Statuses};
 use std::alloc::Global;
 use std::sync::Wait;
 use std::thread::Threads;
-
-// The status of a call whose text was not written whole.
-const WRITE_FAULT: u8 = 5;
 
 // The status of a call that wanted memory before anything was written.
 const NO_MEMORY: u8 = 6;
@@ -29,18 +24,6 @@ const NO_MEMORY: u8 = 6;
 pub struct Outcome {
     pub status: u8,
     pub history: History,
-}
-
-// Writes the text. The status stands where it was written whole.
-fn say<K: ByteSink>(out: &mut K, text: &[u8], status: u8) -> u8
-    requires { status ≢ 5 }
-    ensures written { result ≢ 5 → (result ≡ status) × Appends (K.written out.old) (K.written out.new) text.now }
-    ensures broken { result ≡ 5 → Rose (K.faults out.old) (K.faults out.new) × AppendsFront (K.written out.old) (K.written out.new) text.now }
-{
-    match write_text(out, text) {
-        Put::All => status,
-        Put::Failed => WRITE_FAULT,
-    }
 }
 
 // Ends without a history.
@@ -60,37 +43,20 @@ fn ended(alloc: Global, status: u8) -> Outcome
 
 // Writes the report.
 fn told<K: ByteSink>(out: &mut K, run: Run) -> Outcome
+    requires { HasEnd run }
     ensures memory { result.status ≢ 6 }
-    ensures history { result.history ≡ run.history }
+    ensures history { result.history ≡ run.end.history }
     ensures written { result.status ≢ 5
-        → (result.status ≡ verdict_status run.verdict) × Appends (K.written out.old) (K.written out.new) run.report.items }
+        → (result.status ≡ verdict_status run.verdict) × Appends (K.written out.old) (K.written out.new) (report_text run) }
     ensures broken { result.status ≡ 5
-        → Rose (K.faults out.old) (K.faults out.new) × AppendsFront (K.written out.old) (K.written out.new) run.report.items }
+        → Rose (K.faults out.old) (K.faults out.new) × AppendsFront (K.written out.old) (K.written out.new) (report_text run) }
 {
-    let Run {
-        verdict,
-        history,
-        report,
-    } = run;
+    let status = write_run(out, &run);
+    let end = run.end;
     Outcome {
-        status: say(out, report.as_slice(), verdict_status(verdict)),
-        history,
+        status,
+        history: end.history,
     }
-}
-
-// Writes the line of a refusal, which was made before.
-fn refused<K: ByteSink>(alloc: Global, out: &mut K, refusal: Refusal, text: &[u8]) -> Outcome
-    requires text { text.now ≡ refusal_text refusal }
-    ensures memory { result.status ≢ 6 }
-    ensures entries { result.history.entries.items ≡ [] }
-    ensures statuses { result.history.statuses.items ≡ [] }
-    ensures written { result.status ≢ 5
-        → (result.status ≡ refusal_status refusal) × Appends (K.written out.old) (K.written out.new) (refusal_text refusal) }
-    ensures broken { result.status ≡ 5
-        → Rose (K.faults out.old) (K.faults out.new) × AppendsFront (K.written out.old) (K.written out.new) (refusal_text refusal) }
-{
-    let status = say(out, text, refusal_status(refusal));
-    ended(alloc, status)
 }
 
 // Makes the line of a refusal and writes it, or wants memory and writes nothing.
@@ -103,13 +69,12 @@ fn refuse<K: ByteSink>(alloc: Global, out: &mut K, refusal: Refusal) -> Outcome
         → Rose (K.faults out.old) (K.faults out.new) × AppendsFront (K.written out.old) (K.written out.new) (refusal_text refusal) }
     ensures unchanged { result.status ≡ 6 → out.new ≡ out.old }
 {
-    match line_of(alloc, refusal) {
-        Ok(text) => refused(alloc, out, refusal, text.as_slice()),
-        Err(_) => ended(alloc, NO_MEMORY),
-    }
+    let status = write_refusal(alloc, out, refusal);
+    ended(alloc, status)
 }
 
-/// Does what the words ask for with the bytes of the input: runs the text that they are, and writes its report.
+/// Does what the words ask for: runs the text that the input is, or that of the heat solver, and writes its report, with its trace where that is asked
+/// for.
 ///
 /// The runtime and the gate are for workers, of which there are none yet.
 pub fn tampi<R: Threads + Wait + Sync, S: ByteSource, K: ByteSink, G: Gate>(

@@ -1,4 +1,5 @@
 use Rattle.std.proofs.Common.{sym, Some, ◌≡◌, rules}
+use Rattle.call_words.specs.declared.command.Command.TheVariants as asked
 use Rattle.call_words.specs.Words.{command}
 use Rattle.tampi_top.specs.Due.{Call}
 use Rattle.tampi_top.proofs.DueLemmas.{decided_by}
@@ -14,5 +15,5 @@ returns-in-Whole g c =
       now = g.S.ByteSource.faults c.read_text.new.input;
     } in
     let read = c.in-Whole.ensures.taken in
-    let is_asked : command c.args.words.now ≡ Some c.in-Ok-Some.asked = search (c.in-Ok-Some.ensures.value, c.in-Ok-Some.asked-is, rules) in
-    decided_by call _ _ _ is_asked read.0 read.1 (rw c.as_slice.ensures.value at c.due_of_text.ensures)
+    let is_asked : command c.args.words.now ≡ Some (asked.Run c.in-Ok-Some-Run.asked) = search (c.in-Ok-Some-Run.ensures.value, rules) in
+    decided_by call _ _ _ is_asked read (rw c.as_slice.ensures.value at c.due_of_text.ensures)
