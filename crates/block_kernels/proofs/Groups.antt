@@ -1,5 +1,7 @@
 -- A fold by lanes: an operation that may be taken in any order gives the same by lanes as one by one.
-use Rattle.std.proofs.Common.{◌≡◌, ℕ, zero, suc, ◌*◌, ◌%◌, ◌^◌, ◌+◌, ◌-◌, ◌<◌, ◌≤◌, Bool, true, false, ℤ, pos, ◌+ℤ◌, List, [], ◌∷◌, ◌++◌, length, take, drop, fold, map, sym, refl, ap, ◌∙◌, subst, FitsSigned, int_lt, to_z, of_z, arith, rules, length-drop, get_or-take, get_or-drop, w64}
+use Rattle.std.proofs.Common.{◌≡◌, ℕ, zero, suc, ◌*◌, ◌%◌, ◌^◌, ◌+◌, ◌-◌, ◌<◌, ◌≤◌, Bool, true, false, ℤ, pos, ◌+ℤ◌, List, [], ◌∷◌, ◌++◌, length}
+use Rattle.std.proofs.Common.{take, drop, fold, map, sym, refl, ap, ◌∙◌, subst, FitsSigned, int_lt, to_z, of_z, arith, rules, length-drop}
+use Rattle.std.proofs.Common.{get_or-take, get_or-drop, w64}
 use Rattle.std.specs.Int.{int_min, int_max}
 use Rattle.std.specs.Int.Signed.{lt_z}
 use Rattle.std.specs.Simd.Lanes.{zip2, sel_l, top}

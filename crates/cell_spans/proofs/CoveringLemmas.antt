@@ -1,7 +1,9 @@
 -- How the cells of spans and the places of the line agree.
-use Rattle.std.proofs.Common.{◌≡◌, ◌∙◌, ℕ, zero, suc, ◌+◌, ◌-◌, ◌*◌, ◌<◌, ◌≤◌, ◌↔◌, max, min, Bool, true, false, ◌&&◌, ◌||◌, IsTrue, nat_eq, nat_lt, nat_le, List, [], ◌∷◌, ◌++◌, Option, Some, None, refl, sym, ap, arith, ⊎_elim, if◌then◌else◌}
+use Rattle.std.proofs.Common.{◌≡◌, ◌∙◌, ℕ, zero, suc, ◌+◌, ◌-◌, ◌*◌, ◌<◌, ◌≤◌, ◌↔◌, max, min, Bool, true, false, ◌&&◌, ◌||◌, IsTrue, nat_eq, nat_lt}
+use Rattle.std.proofs.Common.{nat_le, List, [], ◌∷◌, ◌++◌, Option, Some, None, refl, sym, ap, arith, ⊎_elim, if◌then◌else◌}
 use Rattle.std.specs.List.{list_any, list_all}
-use Rattle.std.proofs.lemmas.Bool.{false≢true, true≢false, false_from_ne_true, cases_eq, or_left, or_right, or_cases, and_from, and_parts, and_right, or_from, eqb-true, lt-ltb, le-ltb, ltb-true, leb-true, leb-false, le-leb}
+use Rattle.std.proofs.lemmas.Bool.{false≢true, true≢false, false_from_ne_true, cases_eq, or_left, or_right, or_cases, and_from, and_parts, and_right}
+use Rattle.std.proofs.lemmas.Bool.{or_from, eqb-true, lt-ltb, le-ltb, ltb-true, leb-true, leb-false, le-leb}
 use Rattle.std.proofs.lemmas.Bool.Decides.{nat_tests}
 use Rattle.rt_base.specs.declared.data.Span.{Span}
 use Rattle.rt_base.specs.declared.data.Access.{Access}

@@ -1,5 +1,7 @@
 -- How the bounds of all accesses tell how many pieces there are.
-use Rattle.std.proofs.Common.{◌≡◌, ◌∙◌, ℕ, zero, suc, ◌+◌, ◌-◌, ◌*◌, ◌<◌, ◌≤◌, ◌↔◌, cond, Bool, true, false, ◌&&◌, ◌||◌, nat_eq, nat_lt, nat_le, List, [], ◌∷◌, ◌++◌, length, get_or, slice_index_or, take, Contains, count_by, sum_by, max, refl, sym, ap, append-nil, append_assoc, take_all, subst, arith, ⊎_elim}
+use Rattle.std.proofs.Common.{◌≡◌, ◌∙◌, ℕ, zero, suc, ◌+◌, ◌-◌, ◌*◌, ◌<◌, ◌≤◌, ◌↔◌, cond, Bool, true, false, ◌&&◌, ◌||◌, nat_eq, nat_lt, nat_le, List}
+use Rattle.std.proofs.Common.{[], ◌∷◌, ◌++◌, length, get_or, slice_index_or, take, Contains, count_by, sum_by, max, refl, sym, ap, append-nil}
+use Rattle.std.proofs.Common.{append_assoc, take_all, subst, arith, ⊎_elim}
 use Rattle.std.specs.List.{list_any, AllByRecursion}
 use Rattle.std.specs.List.Sorted.{IsStrictlyIncreasing, IsNonDecreasing, IsStrictlySortedBy}
 use Rattle.std.specs.Ordering.{nat_cmp}

@@ -1,5 +1,7 @@
 -- What the table of requests tells of the operations.
-use Rattle.std.proofs.Common.{◌≡◌, ◌∙◌, ℕ, zero, suc, ◌+◌, ◌<◌, ◌≤◌, cond, Bool, true, false, not, ◌&&◌, ◌||◌, List, [], ◌∷◌, ◌++◌, Option, Some, None, is_some, length, count_by, slice_index_or, slice_set, refl, sym, ap, append-nil, subst, arith, ⊎_elim, if◌then◌else◌}
+use Rattle.std.proofs.Common.{◌≡◌, ◌∙◌, ℕ, zero, suc, ◌+◌, ◌<◌, ◌≤◌, cond, Bool, true, false, not, ◌&&◌, ◌||◌, List, [], ◌∷◌, ◌++◌, Option, Some}
+use Rattle.std.proofs.Common.{None, is_some, length, count_by, slice_index_or, slice_set, refl, sym, ap, append-nil, subst, arith, ⊎_elim}
+use Rattle.std.proofs.Common.{if◌then◌else◌}
 use Rattle.std.specs.List.{list_any}
 use Rattle.std.proofs.lemmas.Bool.{cases_Bool, ne_eqb, eq-eqb}
 use Rattle.std.proofs.lemmas.Grind.{common_steps}
@@ -15,7 +17,8 @@ use Rattle.rt_base.specs.Operations.{PostingParts, posting_parts, given, blocks,
 use Rattle.rt_base.specs.InUse.{is_nth, completes, names_request, left_after, used_after, bound_status, bound_statuses}
 use Rattle.cell_spans.specs.declared.in_use.Request.{Request}
 use Rattle.cell_spans.specs.Marks.{AreMarks}
-use Rattle.cell_spans.specs.Requests.{request_posted, request_of, requests_of, spans_of, is_receiving, is_sending, noted, noted_at, noted_by_all, unnamed, HasSpans, Holds}
+use Rattle.cell_spans.specs.Requests.{request_posted, request_of, requests_of, spans_of, is_receiving, is_sending, noted, noted_at, noted_by_all}
+use Rattle.cell_spans.specs.Requests.{unnamed, HasSpans, Holds}
 use Rattle.cell_spans.specs.declared.in_use.SpansInUse.{SpansInUse}
 use Rattle.cell_spans.proofs.CoveringLemmas.{any_push}
 use Rattle.cell_spans.proofs.CountLemmas.{count_first, count_yes, count_no}

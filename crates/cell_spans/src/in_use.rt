@@ -24,7 +24,8 @@ pub(crate) struct Request {
     named: bool,
 }
 
-/// The requests of a body by number, and the spans in use: those of receives under way with the status spans of waits that only bound their requests, and those of sends under way.
+/// The requests of a body by number, and the spans in use: those of receives under way with the status spans of waits that only bound their requests, and
+/// those of sends under way.
 #[derive(Drop)]
 pub(crate) struct SpansInUse {
     requests: Vec<Request>,
@@ -91,7 +92,8 @@ impl SpansInUse {
 
     // The same of a span that there may be.
     fn any_received(&self, span: Option<Span>) -> bool
-        ensures { (earlier : List Op) → Holds self.now earlier → result ≡ list_any (shares_any (received_after earlier ++ bound_statuses earlier)) (option_to_list span) }
+        ensures { (earlier : List Op) → Holds self.now earlier
+            → result ≡ list_any (shares_any (received_after earlier ++ bound_statuses earlier)) (option_to_list span) }
     {
         match span {
             Some(span) => self.is_received(span),
@@ -148,8 +150,10 @@ impl SpansInUse {
             → AreMarks self.new.received.begins self.new.received.ends (if request.used && request.receives then request.span ∷ spans else spans)) }
         ensures sent { OnOk result ((spans : List Span) → AreMarks self.old.sent.begins self.old.sent.ends spans
             → AreMarks self.new.sent.begins self.new.sent.ends (if request.used && not request.receives then request.span ∷ spans else spans)) }
-        ensures received_kept { OnErr result ((spans : List Span) → AreMarks self.old.received.begins self.old.received.ends spans → AreMarks self.new.received.begins self.new.received.ends spans) }
-        ensures sent_kept { OnErr result ((spans : List Span) → AreMarks self.old.sent.begins self.old.sent.ends spans → AreMarks self.new.sent.begins self.new.sent.ends spans) }
+        ensures received_kept { OnErr result ((spans : List Span) → AreMarks self.old.received.begins self.old.received.ends spans
+            → AreMarks self.new.received.begins self.new.received.ends spans) }
+        ensures sent_kept { OnErr result ((spans : List Span) → AreMarks self.old.sent.begins self.old.sent.ends spans
+            → AreMarks self.new.sent.begins self.new.sent.ends spans) }
     {
         if !request.used {
             return Ok(());
@@ -164,9 +168,11 @@ impl SpansInUse {
     // Takes the span of the request out of its bag, if it is in use.
     fn release(&mut self, request: Request)
         ensures requests { self.new.requests ≡ self.old.requests }
-        ensures received { (spans : List Span) → AreMarks self.old.received.begins self.old.received.ends (if request.used && request.receives then request.span ∷ spans else spans)
+        ensures received { (spans : List Span)
+            → AreMarks self.old.received.begins self.old.received.ends (if request.used && request.receives then request.span ∷ spans else spans)
             → AreMarks self.new.received.begins self.new.received.ends spans }
-        ensures sent { (spans : List Span) → AreMarks self.old.sent.begins self.old.sent.ends (if request.used && not request.receives then request.span ∷ spans else spans)
+        ensures sent { (spans : List Span)
+            → AreMarks self.old.sent.begins self.old.sent.ends (if request.used && not request.receives then request.span ∷ spans else spans)
             → AreMarks self.new.sent.begins self.new.sent.ends spans }
     {
         if !request.used {
@@ -252,7 +258,8 @@ impl SpansInUse {
         status: Option<Span>,
     ) -> Result<(), AllocError>
         ensures requests { OnOk result (self.new.requests.items ≡ noted_by_all later handles.now self.old.requests.items) }
-        ensures spans { OnOk result ((statuses : List Span) → HasSpans self.old statuses → HasSpans self.new (statuses ++ (if later then option_to_list status else []))) }
+        ensures spans { OnOk result ((statuses : List Span) → HasSpans self.old statuses
+            → HasSpans self.new (statuses ++ (if later then option_to_list status else []))) }
         ensures unchanged { OnErr result (self.new.requests.items ≡ self.old.requests.items) }
         ensures kept { OnErr result ((statuses : List Span) → HasSpans self.old statuses → HasSpans self.new statuses) }
     {

@@ -111,7 +111,8 @@ impl Intervals {
     pub(crate) fn add(&mut self, interval: Interval) -> Result<(), AllocError>
         requires some { interval.begin < interval.end }
         requires apart { (spot : ℕ) → IsIn spot interval → Has (end_at self.old) spot → ⊥ }
-        ensures added { OnOk result ((test : ℕ → Bool) → AreThose (end_at self.old) test → AreThose (end_at self.new) (λ spot. is_in spot interval || test spot)) }
+        ensures added { OnOk result ((test : ℕ → Bool) → AreThose (end_at self.old) test
+            → AreThose (end_at self.new) (λ spot. is_in spot interval || test spot)) }
         ensures unchanged { OnErr result (self.new ≡ self.old) }
     {
         let begin = self.joined_begin(interval);

@@ -1,4 +1,5 @@
-//! What is known of the cells of the open task, and how finely the accesses of all tasks cut the arrays: tables that answer the definitions of `rt_base` without a look at each cell or each pair of spans.
+//! What is known of the cells of the open task, and how finely the accesses of all tasks cut the arrays: tables that answer the definitions of `rt_base`
+//! without a look at each cell or each pair of spans.
 #![tactic(auto)]
 
 mod body;

@@ -86,7 +86,8 @@ fn take_out(added: &mut Gathered, removed: &mut Gathered, number: u64)
     requires part { IsPart removed.old added.old }
     requires there { count_by (nat_eq number) removed.old < count_by (nat_eq number) added.old }
     ensures part { IsPart removed.new added.new }
-    ensures taken { (test : ℕ → Bool) → (count_by test added.new + count_by test removed.old) + cond (test number) 1 0 ≡ count_by test added.old + count_by test removed.new }
+    ensures taken { (test : ℕ → Bool)
+        → (count_by test added.new + count_by test removed.old) + cond (test number) 1 0 ≡ count_by test added.old + count_by test removed.new }
 {
     match removed.add(number) {
         Ok(()) => {}

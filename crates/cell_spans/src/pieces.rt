@@ -11,7 +11,8 @@ use crate::sorted::count_below;
 use rt_base::{Access, Span, TaskDef};
 use std::alloc::{AllocError, Global};
 
-/// Whether the pairs of an access and an elementary segment inside it are at most so many. Sorts the bounds of all accesses, and looks for those of each access among them.
+/// Whether the pairs of an access and an elementary segment inside it are at most so many. Sorts the bounds of all accesses, and looks for those of each
+/// access among them.
 pub fn pieces_within(alloc: Global, tasks: &[TaskDef], most: u64) -> Result<bool, AllocError>
     ensures { IfOk result (λ within. within ≡ nat_le (pieces tasks.now) most) }
 {

@@ -50,7 +50,8 @@ impl SpanBag {
 
     /// Adds a span. After want of memory the bag has the spans that it had.
     pub(crate) fn add(&mut self, span: Span) -> Result<(), AllocError>
-        ensures added { OnOk result ((spans : List Span) → AreMarks self.old.begins self.old.ends spans → AreMarks self.new.begins self.new.ends (span ∷ spans)) }
+        ensures added { OnOk result ((spans : List Span) → AreMarks self.old.begins self.old.ends spans
+            → AreMarks self.new.begins self.new.ends (span ∷ spans)) }
         ensures kept { OnErr result ((spans : List Span) → AreMarks self.old.begins self.old.ends spans → AreMarks self.new.begins self.new.ends spans) }
     {
         let Some(interval) = interval_of(span) else {

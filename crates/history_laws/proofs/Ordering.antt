@@ -18,7 +18,7 @@ use Rattle.match_engine.proofs.Standings.{target}
 use Rattle.match_engine.proofs.Matched.{one_place, at_place}
 use Rattle.task_machine.specs.Machine.{step}
 use Rattle.task_machine.specs.Legal.{state_after, caller, callers, final, IsLegal}
-use Rattle.history_laws.specs.Postings.{Place, called, posted_at, posted_in, posted_by_entry, cells_of_entry, postings_by_entry, postings_from, postings_of}
+use Rattle.history_laws.specs.Postings.{Place, call_in, posted_at, posted_in, posted_by_entry, cells_of_entry, postings_by_entry, postings_from, postings_of}
 use Rattle.history_laws.specs.Order.{PostsAt, matches_of, EachMatchIsPosted, HistoriesKeepMessages, HistoriesKeepReceives}
 use Rattle.history_laws.proofs.Tracing.{traced_end, posts_with}
 
@@ -138,7 +138,7 @@ comes_from : (p : Program) (s : State) (entries : List Entry) (n : ℕ) (call : 
     → PostsFrom p s entries call
 comes_from p s [] n call at = absurd (none-some call at)
 comes_from p s (e ∷ entries) n call at =
-    comes_by p s e entries n call (one_call p (called e)) (λ m. comes_from p (step p s (caller (length p.tasks.items) e)).state entries m call) at
+    comes_by p s e entries n call (one_call p (call_in e)) (λ m. comes_from p (step p s (caller (length p.tasks.items) e)).state entries m call) at
 
 -- a match of a legal history is one of its postings
 match_at : MatchesArePosted → (p : Program) (w : ℕ) (entries : List Entry) (statuses : List Status) → IsLegal p w entries statuses → (i : ℕ) (made : Match)

@@ -20,7 +20,7 @@ use Rattle.rt_base.specs.MayMove.{MayMove}
 use Rattle.match_engine.specs.Laws.{Posted}
 use Rattle.task_machine.specs.Machine.{Moved, move, move_at, call_move, post_move, await_move, poll, polled, step, MayStep, is_expected}
 use Rattle.task_machine.specs.Legal.{IsDefined, state_after, entries_after, state_of}
-use Rattle.task_machine.specs.Owed.{opened_by_step, IsIn, IsOwed}
+use Rattle.task_machine.specs.Owed.{opened_by_step, IsOneOf, IsOwed}
 use Rattle.task_machine.proofs.Rows.{move-row}
 use Rattle.task_machine.proofs.Runs.{step-task, exists_of_move}
 use Rattle.task_machine.proofs.Calls.{Stays}
@@ -264,7 +264,7 @@ owed_awaits p s q few (inl undone) = λ _. undone.1
 owed_awaits p s q few (inr stands) = λ undone. absurd (omega (arith, few, standing_at p s q false undone, some_counts q s.notices stands))
 
 stands_in : (q : ReqNo) (notices : List ReqNo) → times q notices ≡ 1 → (list_any (same_request q) notices ≡ true) ⊎ (list_any (same_request q) notices ≡ false)
-    → IsIn q notices
+    → IsOneOf q notices
 stands_in q notices one (inl has) = has
 stands_in q notices one (inr none) = absurd (omega (arith, one, none_counts q notices none))
 
@@ -277,19 +277,19 @@ owed_from p s q one awaits = elim (cases_Bool (is_complete p s.exchange q)) [
 ]
 
 -- a request that a step of the run opens is owed after it, so that it is told exactly once from then on
-step_owed : (p : Program) (w : ℕ) (s : State) (c : ℕ) (q : ReqNo) → MayStep p w s c → IsIn q (opened_by_step p s c []) → IsOwed p (step p s c).state q
+step_owed : (p : Program) (w : ℕ) (s : State) (c : ℕ) (q : ReqNo) → MayStep p w s c → IsOneOf q (opened_by_step p s c []) → IsOwed p (step p s c).state q
 step_owed p w s c q may opens = elim may [
   | inl moves ↦
       let exists = exists_of_move p s c moves in
       subst (λ (m : Moved). IsOwed p m.state q) (sym (step-task p s c exists))
-      (opened_owed p s c moves q (subst (IsIn q) (opened-task p s c exists) opens))
+      (opened_owed p s c moves q (subst (IsOneOf q) (opened-task p s c exists) opens))
   | inr polls ↦
       let none : list_any (same_request q) [] ≡ true = ap (list_any (same_request q)) (sym (opened-poller p s c polls.poller)) ∙ opens in
       absurd (cc none)
 ]
 
 run_told : (p : Program) (w : ℕ) (s : State) (cs : List ℕ) (q : ReqNo) (n : ℕ) → WaitsNamePosted p → IsDefined p w s cs → Fit p s
-    → n + standing p s q ≤ 1 → IsIn q (openings p s cs) → (n + polls_of q (entries_after p s cs)) + standing p (state_after p s cs) q ≡ 1
+    → n + standing p s q ≤ 1 → IsOneOf q (openings p s cs) → (n + polls_of q (entries_after p s cs)) + standing p (state_after p s cs) q ≡ 1
 run_told p w s [] q n waits runs fit few opens = absurd (cc opens)
 run_told p w s (c ∷ cs) q n waits runs fit few opens =
     let after = (step p s c).state in

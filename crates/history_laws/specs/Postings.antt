@@ -23,26 +23,27 @@ pub record Place : Type 0 where
   pub op : ℕ
 
 -- the operation that an entry calls, where it is a call
-abbrev pub called : Entry → Option Place
-called (entry.Start task) = None
-called (entry.Call task op pending) = Some (record { task = task.0; op = op })
-called (entry.Leave task op from count) = None
-called (entry.Return task) = None
-called (entry.Release task from count) = None
-called (entry.Poll poller req) = None
+abbrev pub call_in : Entry → Option Place
+call_in (entry.Start task) = None
+call_in (entry.Call task op pending) = Some (record { task = task.0; op = op })
+call_in (entry.Leave task op from count) = None
+call_in (entry.Return task) = None
+call_in (entry.Release task from count) = None
+call_in (entry.Poll poller req) = None
 
 -- the request that operation k of task t posts, where it is a posting
 abbrev pub posted_at : ℕ → ℕ → TaskDef → Option Op → List ReqNo
 posted_at t k def None = []
 posted_at t k def (Some operation) = if is_posting operation then request t (nth_at def k) ∷ [] else []
 
+-- the request that operation k of a task posts, if it is a posting
 abbrev pub posted_in : ℕ → ℕ → Option TaskDef → List ReqNo
 posted_in t k None = []
 posted_in t k (Some def) = posted_at t k def (slice_get def.body.items k)
 
 -- the request that an entry posts: the call of a posting
 abbrev pub posted_by_entry : Program → Entry → List ReqNo
-posted_by_entry program made = given [] (λ (at : Place). posted_in at.task at.op (slice_get program.tasks.items at.task)) (called made)
+posted_by_entry program made = given [] (λ (at : Place). posted_in at.task at.op (slice_get program.tasks.items at.task)) (call_in made)
 
 -- the requests that are posted by these entries, in the order of the calls
 abbrev pub all_posted : Program → List Entry → List ReqNo
@@ -57,7 +58,7 @@ cells_at_call k (Some def) (Some task) = packed def k task.copy
 -- the cells that the call of an entry would send that is made in this state
 abbrev pub cells_of_entry : Program → State → Entry → List ℤ
 cells_of_entry program state made =
-    given [] (λ (at : Place). cells_at_call at.op (slice_get program.tasks.items at.task) (slice_get state.tasks at.task)) (called made)
+    given [] (λ (at : Place). cells_at_call at.op (slice_get program.tasks.items at.task) (slice_get state.tasks at.task)) (call_in made)
 
 -- what an entry posts that is made in this state: what the program says of its request, with the cells that the copy of its task has at the call
 abbrev pub postings_by_entry : Program → State → Entry → List Posted

@@ -10,7 +10,7 @@ use Rattle.rt_base.specs.State.{State, opening}
 use Rattle.rt_base.specs.MayMove.{MayMove}
 use Rattle.task_machine.specs.Machine.{move, is_expected}
 use Rattle.task_machine.specs.Legal.{IsDefined, state_after, entries_after, state_of}
-use Rattle.task_machine.specs.Owed.{IsIn, IsOwed}
+use Rattle.task_machine.specs.Owed.{IsOneOf, IsOwed}
 use Rattle.tidy_runs.specs.Openings.{openings}
 use Rattle.history_laws.specs.Notices.{WaitsNamePosted, standing}
 
@@ -53,7 +53,7 @@ RequestsAreToldAtMostOnce =
 abbrev pub OpenedAreToldOnce : Type 0
 OpenedAreToldOnce =
     (program : Program) (workers : ℕ) (made_by : List ℕ) → IsDefined program workers (opening program) made_by → WaitsNamePosted program
-    → (req : ReqNo) → IsIn req (openings program (opening program) made_by)
+    → (req : ReqNo) → IsOneOf req (openings program (opening program) made_by)
     → polls_of req (entries_after program (opening program) made_by) + standing program (state_of program made_by) req ≡ 1
 
 -- what is owed is owed until a poll takes its notice, and no longer

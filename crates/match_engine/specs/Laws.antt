@@ -32,6 +32,7 @@ AreNew exchange (call ∷ calls) =
 abbrev pub sends : ℕ → Message → Posted
 sends rank message = record { request = message.request; posting = Sent rank message }
 
+-- the receive as it was posted at its rank
 abbrev pub asks : ℕ → Receive → Posted
 asks rank wish = record { request = wish.request; posting = Asked rank wish }
 

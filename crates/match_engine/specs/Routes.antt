@@ -49,6 +49,7 @@ way_for keys comm source (peer.Rank to) tag.Any = way.Nowhere
 way_for keys comm source peer.Any selected = way.Nowhere
 way_for keys comm source peer.Null selected = way.Nowhere
 
+-- the way of a call that sends
 abbrev pub way_to : List (List Selector) → Call → Way
 way_to keys call = way_for keys call.comm call.rank call.peer call.tag
 
@@ -56,6 +57,7 @@ way_to keys call = way_for keys call.comm call.rank call.peer call.tag
 abbrev pub way_from : List (List Selector) → ℕ → ℕ → Peer → TagSel → Way
 way_from keys comm rank source selected = given way.Nowhere (λ selector. way.Lane (lane_in (known_at keys rank) selector)) (selector_by comm source selected)
 
+-- the way of a call that receives
 abbrev pub way_in : List (List Selector) → Call → Way
 way_in keys call = way_from keys call.comm call.rank call.peer call.tag
 
@@ -89,6 +91,7 @@ way_at ways req = option_and_then (λ (row : List Way). slice_get row req.nth) (
 abbrev pub HasDoors : Way → Doors → Type 0
 HasDoors lanes doors = lanes ≡ way.Doors doors
 
+-- the way is this lane of a receive
 abbrev pub HasLane : Way → ℕ → Type 0
 HasLane lanes lane = lanes ≡ way.Lane lane
 
@@ -98,6 +101,7 @@ IsDoors (way.Doors doors) = ⊤
 IsDoors (way.Lane lane) = ⊥
 IsDoors way.Nowhere = ⊥
 
+-- it is the lane of a receive
 abbrev pub IsLane : Way → Type 0
 IsLane (way.Doors doors) = ⊥
 IsLane (way.Lane lane) = ⊤

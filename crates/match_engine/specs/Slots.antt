@@ -78,6 +78,7 @@ abbrev pub enters : Side → Call → ℕ → Bool
 enters Messages call rank = not (is_receive call.how) && addresses call.peer rank
 enters Receives call rank = is_receive call.how && listens call.peer call.rank rank
 
+-- whether the request was not posted yet
 abbrev pub is_unposted : Progress → Bool
 is_unposted Unposted = true
 is_unposted Waits = false

@@ -12,6 +12,7 @@ lane_of hook = Some hook.lane.value
 abbrev pub shown : Hook → Option ℕ
 shown hook = if hook.gone then None else Some hook.lane.value
 
+-- the place that follows on the lane
 abbrev pub next_of : Hook → ℕ
 next_of hook = hook.next
 
@@ -74,6 +75,7 @@ IsStop hooks place =
 abbrev pub IsKept : List Hook → ℕ → Type 0
 IsKept hooks place = (lane : ℕ) → is_on lane (map lane_of hooks) place ≡ true → is_on lane (map shown hooks) place ≡ true
 
+-- a place that stands on no lane
 abbrev pub IsGone : List Hook → ℕ → Type 0
 IsGone hooks place = (lane : ℕ) → is_on lane (map shown hooks) place ≡ false
 

@@ -26,6 +26,7 @@ wanted_tag tag.Any = wanted.Any
 abbrev pub selector_by : ℕ → Peer → TagSel → Option Selector
 selector_by comm source selected = option_map (λ from. record { comm = comm; source = from; tag = wanted_tag selected }) (wanted_source source)
 
+-- the selector of a receive; one from no process has none (MPI 4.0, 3.2.4 and 3.10)
 abbrev pub selector_of : Receive → Option Selector
 selector_of wish = selector_by wish.comm wish.source wish.tag
 
@@ -33,12 +34,15 @@ selector_of wish = selector_by wish.comm wish.source wish.tag
 abbrev pub exact : ℕ → ℕ → ℕ → Selector
 exact comm source sent = record { comm = comm; source = wanted.Only source; tag = wanted.Only sent }
 
+-- any source with this tag (MPI 4.0, 3.2.4)
 abbrev pub any_source : ℕ → ℕ → Selector
 any_source comm sent = record { comm = comm; source = wanted.Any; tag = wanted.Only sent }
 
+-- any tag from this source (MPI 4.0, 3.2.4)
 abbrev pub any_tag : ℕ → ℕ → Selector
 any_tag comm source = record { comm = comm; source = wanted.Only source; tag = wanted.Any }
 
+-- any source with any tag of a communicator (MPI 4.0, 3.2.4)
 abbrev pub anything : ℕ → Selector
 anything comm = record { comm = comm; source = wanted.Any; tag = wanted.Any }
 
@@ -49,6 +53,7 @@ is_same_wanted (wanted.Only one) wanted.Any = false
 is_same_wanted wanted.Any (wanted.Only other) = false
 is_same_wanted wanted.Any wanted.Any = true
 
+-- whether two selectors are one
 abbrev pub is_same : Selector → Selector → Bool
 is_same one other = (one.comm == other.comm) && (is_same_wanted one.source other.source && is_same_wanted one.tag other.tag)
 
@@ -69,6 +74,7 @@ doors_by keys comm source sent = record {
   anything = lane_in keys (anything comm);
 }
 
+-- the lanes of a message: at most one for each of the four kinds of selectors that accept it
 abbrev pub doors_of : List Selector → Message → Doors
 doors_of keys message = doors_by keys message.comm message.source message.tag
 

@@ -13,7 +13,8 @@ use Rattle.meet_hall.specs.Places.{ListsAre}
 use Rattle.meet_hall.specs.Plan.{start_of, IsNarrow}
 use Rattle.meet_hall.specs.Views.{slot_of, desk_of, chit_of, first_desk, first_view}
 use Rattle.meet_hall.specs.Rule.{lists_of, Kept}
-use Rattle.meet_hall.specs.Steps.{holder_made, holder_of_made, ticket_made, ticket_of_made, Issued, Opened, Parked, Brought, Came, TakenRecord, TakenOut, Returned, Rearmed}
+use Rattle.meet_hall.specs.Steps.{holder_made, holder_of_made, ticket_made, ticket_of_made, Issued, Opened, Parked, Brought, Came, TakenRecord}
+use Rattle.meet_hall.specs.Steps.{TakenOut, Returned, Rearmed}
 use Rattle.meet_hall.proofs.PlanLemmas.{apart_plan}
 use Rattle.meet_hall.proofs.HolderKinds.{makes, hands, issues, opens}
 use Rattle.meet_hall.proofs.ParkKinds.{parks}

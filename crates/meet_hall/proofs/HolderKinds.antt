@@ -1,5 +1,6 @@
 -- The kinds of step of a holder before it comes, and its coming.
-use Rattle.std.proofs.Common.{◌≡◌, ℕ, suc, zero, ◌+◌, ◌*◌, ◌/◌, ◌%◌, ◌^◌, ◌-◌, ◌<◌, ◌≤◌, ◌≢◌, ◌⊎◌, inl, inr, ⊎_elim, ◌==◌, Bool, true, false, List, [], ◌∷◌, ◌++◌, length, set, slice_index, sym, refl, ap, ◌∙◌, subst, arith, eq-eqb, ne_eqb, length-set}
+use Rattle.std.proofs.Common.{◌≡◌, ℕ, suc, zero, ◌+◌, ◌*◌, ◌/◌, ◌%◌, ◌^◌, ◌-◌, ◌<◌, ◌≤◌, ◌≢◌, ◌⊎◌, inl, inr, ⊎_elim, ◌==◌, Bool, true, false, List}
+use Rattle.std.proofs.Common.{[], ◌∷◌, ◌++◌, length, set, slice_index, sym, refl, ap, ◌∙◌, subst, arith, eq-eqb, ne_eqb, length-set}
 use Rattle.std.specs.Prelude.{Option, Some, None}
 use mathlib.Core.Option.{some, none}
 use mathlib.Core.Logic.{dite}
@@ -24,12 +25,15 @@ use Rattle.meet_hall.specs.Places.{ListsAre}
 use Rattle.meet_hall.specs.Parties.{Party, idle, kept, waits, puts, came, shut, out, due, live, stale, gone, ticket_come, dues, owner}
 use Rattle.meet_hall.specs.Seatings.{Seating, issued_at, count_at, word_at, changed, NoneLeft, HeadMay, Tallies, Orderly, Logged}
 use Rattle.meet_hall.specs.Views.{first_desk, issuing_desk, chit_from, holder_trace}
-use Rattle.meet_hall.specs.Rule.{Stands, IsRecord, IsNote, lists_of, Sits, Bears, IsFresh, HasCome, IsPlaced, IsDesk, IsChit, Agrees, RecordStands, NoteStands, KeptBy, Kept}
+use Rattle.meet_hall.specs.Rule.{Stands, IsRecord, IsNote, lists_of, Sits, Bears, IsFresh, HasCome, IsLaidOut, IsDesk, IsChit, Agrees, RecordStands}
+use Rattle.meet_hall.specs.Rule.{NoteStands, KeptBy, Kept}
 use Rattle.meet_hall.specs.Steps.{Finds, Issued, Opened, Parked, parked}
 use Rattle.meet_hall.proofs.Changes.{changed-here, changed-else, changed_all, set_at, there, Words, words_set, words_stay}
 use Rattle.meet_hall.proofs.PartyLemmas.{idle_of, dues_changed, due_dues}
 use Rattle.meet_hall.proofs.Keeping.{stands_to, SameHead, SameTicket, Spares, LiesAt, Apart, views_set, views_grown, kept_core}
-use Rattle.meet_hall.proofs.SeatingLemmas.{headed, ticketed, moving, count_small, number_more, number_less, finds, tallies_to, orderly_headed, orderly_ticketed, orderly_moving, logged_headed, logged_ticketed, logged_issue, logged_park, mine_waits, mine_puts, none_idle, spares_headed, spares_ticketed, spares_moving, spares_trans}
+use Rattle.meet_hall.proofs.SeatingLemmas.{headed, ticketed, moving, count_small, number_more, number_less, finds, tallies_to, orderly_headed}
+use Rattle.meet_hall.proofs.SeatingLemmas.{orderly_ticketed, orderly_moving, logged_headed, logged_ticketed, logged_issue, logged_park, mine_waits}
+use Rattle.meet_hall.proofs.SeatingLemmas.{mine_puts, none_idle, spares_headed, spares_ticketed, spares_moving, spares_trans}
 
 module _ (n : ℕ) (base places : ℕ → ℕ) {R N : Type 0} (fits_r : R → TableId → ℕ → List ℕ → Type 0) (fits_n : N → TableId → ℕ → List ℕ → Type 0)
     (apart : Apart n base places) (narrow : (m : ℕ) → m < n → places m + 1 < 2 ^ 32) where

@@ -1,5 +1,6 @@
 -- How a step of one seat at one meeting keeps the rule of the whole hall.
-use Rattle.std.proofs.Common.{◌≡◌, ℕ, suc, ◌+◌, ◌<◌, ◌≤◌, ◌≢◌, ◌⊎◌, inl, inr, ⊎_elim, List, [], ◌∷◌, ◌++◌, length, set, sym, refl, ap, ◌∙◌, subst, arith, slice_index}
+use Rattle.std.proofs.Common.{◌≡◌, ℕ, suc, ◌+◌, ◌<◌, ◌≤◌, ◌≢◌, ◌⊎◌, inl, inr, ⊎_elim, List, [], ◌∷◌, ◌++◌, length, set, sym, refl, ap, ◌∙◌, subst}
+use Rattle.std.proofs.Common.{arith, slice_index}
 use Rattle.std.specs.Prelude.{Option, Some}
 use mathlib.Core.Option.{some, none}
 use mathlib.Core.Option.{Option as Maybe}
@@ -17,7 +18,7 @@ use Rattle.meet_hall.specs.declared.view.View.{View}
 use Rattle.meet_hall.specs.declared.view.View.TheVariants.{Builds, Holds, Issues, Takes, Parks, Lasts, Ends, Comes, Puts, Gone}
 use Rattle.meet_hall.specs.Parties.{Party, idle, kept, waits, puts, came, shut, out, owner}
 use Rattle.meet_hall.specs.Seatings.{Seating, issued_at, word_at, changed, Orderly, Logged}
-use Rattle.meet_hall.specs.Rule.{Stands, IsRecord, IsNote, Sits, Bears, IsFresh, HasCome, IsPlaced, IsDesk, IsChit, Agrees, RecordStands, NoteStands, KeptBy}
+use Rattle.meet_hall.specs.Rule.{Stands, IsRecord, IsNote, Sits, Bears, IsFresh, HasCome, IsLaidOut, IsDesk, IsChit, Agrees, RecordStands, NoteStands, KeptBy}
 use Rattle.meet_hall.proofs.Changes.{changed_all, changed_keeps, at_end, Words}
 
 -- what stands in a slot stands there by any name of the party and the slot

@@ -1,6 +1,7 @@
 -- Lists of places: how long one of places that differ can be, and what a place that is taken leaves.
 use native.Mathlib.Decide.{dec_le}
-use Rattle.std.proofs.Common.{◌≡◌, ℕ, suc, zero, ◌+◌, ◌-◌, ◌<◌, ◌≤◌, ◌≢◌, ◌==◌, Bool, List, [], ◌∷◌, ◌++◌, map, length, take, drop, sym, refl, ap, ◌∙◌, subst, arith, if◌then◌else◌, eq-eqb, ne_eqb, get_or}
+use Rattle.std.proofs.Common.{◌≡◌, ℕ, suc, zero, ◌+◌, ◌-◌, ◌<◌, ◌≤◌, ◌≢◌, ◌==◌, Bool, List, [], ◌∷◌, ◌++◌, map, length, take, drop, sym, refl, ap}
+use Rattle.std.proofs.Common.{◌∙◌, subst, arith, if◌then◌else◌, eq-eqb, ne_eqb, get_or}
 use Rattle.std.specs.Prelude.{Option, Some, None, slice_get}
 use mathlib.Core.Logic.{dite}
 use native.Mathlib.Decide.{ℕ_discrete}

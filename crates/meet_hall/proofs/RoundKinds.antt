@@ -1,5 +1,6 @@
 -- The kinds of step of the last party, and of the holder that takes notes.
-use Rattle.std.proofs.Common.{◌≡◌, ℕ, suc, zero, ◌+◌, ◌*◌, ◌/◌, ◌%◌, ◌^◌, ◌-◌, ◌<◌, ◌≤◌, ◌≢◌, ◌⊎◌, inl, inr, ⊎_elim, ◌==◌, Bool, true, false, List, [], ◌∷◌, ◌++◌, length, set, slice_index, sym, refl, ap, ◌∙◌, subst, arith, eq-eqb, ne_eqb, length-set}
+use Rattle.std.proofs.Common.{◌≡◌, ℕ, suc, zero, ◌+◌, ◌*◌, ◌/◌, ◌%◌, ◌^◌, ◌-◌, ◌<◌, ◌≤◌, ◌≢◌, ◌⊎◌, inl, inr, ⊎_elim, ◌==◌, Bool, true, false, List}
+use Rattle.std.proofs.Common.{[], ◌∷◌, ◌++◌, length, set, slice_index, sym, refl, ap, ◌∙◌, subst, arith, eq-eqb, ne_eqb, length-set}
 use Rattle.std.specs.Prelude.{Option, Some, None}
 use mathlib.Core.Option.{some, none}
 use mathlib.Core.Logic.{dite}
@@ -24,13 +25,17 @@ use Rattle.meet_hall.specs.Places.{ListsAre, without}
 use Rattle.meet_hall.specs.Parties.{Party, idle, kept, waits, puts, came, shut, out, due, live, stale, gone, ticket_come, dues, owner}
 use Rattle.meet_hall.specs.Seatings.{Seating, issued_at, count_at, word_at, changed, NoneLeft, HeadMay, Tallies, Orderly, Logged}
 use Rattle.meet_hall.specs.Views.{first_desk, issuing_desk, next_desk, noted_desk, chit_from, desk_from, slot_of, holder_trace, ticket_trace}
-use Rattle.meet_hall.specs.Rule.{Stands, IsRecord, IsNote, lists_of, Sits, Bears, IsFresh, HasCome, IsPlaced, IsDesk, IsChit, Agrees, RecordStands, NoteStands, KeptBy, Kept}
+use Rattle.meet_hall.specs.Rule.{Stands, IsRecord, IsNote, lists_of, Sits, Bears, IsFresh, HasCome, IsLaidOut, IsDesk, IsChit, Agrees, RecordStands}
+use Rattle.meet_hall.specs.Rule.{NoteStands, KeptBy, Kept}
 use Rattle.meet_hall.specs.Steps.{Finds, Parked, parked, Brought, Came, arrived, TakenRecord, TakenOut, Returned, Rearmed}
 use Rattle.meet_hall.proofs.Changes.{changed-here, changed-else, changed_all, set_at, there, Words, words_set, words_stay, count_in, round_in}
 use Rattle.meet_hall.proofs.PlaceLemmas.{times-without}
 use Rattle.meet_hall.proofs.PartyLemmas.{idle_of, kept_of, ended, dues_same, dues_changed, due_dues}
 use Rattle.meet_hall.proofs.Keeping.{stands_to, SameHead, SameTicket, Spares, LiesAt, Apart, views_set, views_grown, kept_core}
-use Rattle.meet_hall.proofs.SeatingLemmas.{headed, ticketed, moving, count_small, number_more, number_less, finds, tallies_to, orderly_headed, orderly_ticketed, orderly_moving, head_stays, logged_headed, logged_ticketed, logged_issue, logged_park, logged_arrive, NotOthers, mine_waits, mine_puts, mine_shut, mine_out, none_idle, none_kept, none_came, spares_headed, spares_ticketed, spares_moving, spares_trans}
+use Rattle.meet_hall.proofs.SeatingLemmas.{headed, ticketed, moving, count_small, number_more, number_less, finds, tallies_to, orderly_headed}
+use Rattle.meet_hall.proofs.SeatingLemmas.{orderly_ticketed, orderly_moving, head_stays, logged_headed, logged_ticketed, logged_issue, logged_park}
+use Rattle.meet_hall.proofs.SeatingLemmas.{logged_arrive, NotOthers, mine_waits, mine_puts, mine_shut, mine_out, none_idle, none_kept, none_came}
+use Rattle.meet_hall.proofs.SeatingLemmas.{spares_headed, spares_ticketed, spares_moving, spares_trans}
 use Rattle.meet_hall.proofs.HolderKinds.{notes_but_record}
 
 -- the party of a ticket when the next round begins: one that has come left its note

@@ -8,10 +8,12 @@ use Rattle.meet_hall.specs.declared.party.Met.{Met}
 use Rattle.meet_hall.specs.declared.party.Met.TheVariants.{Waiting, Last}
 use Rattle.meet_hall.specs.Holders.{HolderIs, TicketIs, StubIs, stub_of, next_holder, last_by}
 
+-- what holds where the meeting still waits for others
 abbrev pub IfWaiting : {R : Type 0} → Met R → (StubIs → Type 0) → Type 0
 IfWaiting (Waiting stub) P = P stub
 IfWaiting (Last next guest) P = Unit {0}
 
+-- what holds where this party was the last
 abbrev pub IfLast : {R : Type 0} → Met R → (HolderIs → R → Type 0) → Type 0
 IfLast (Waiting stub) P = Unit {0}
 IfLast (Last next guest) P = P next guest

@@ -107,22 +107,28 @@ holder_is seat hall meeting base lists views =
       left = lists.left;
     }
 
+-- the seat of a holder has its desk, and the round that its word counts
 abbrev pub HolderStands : HolderIs → List View → ℕ → Type 0
 HolderStands h views round = (views ≡ Holds (desk h) ∷ []) × (h.round % 2 ^ 32 ≡ round) × (h.meeting < h.hall.words) × (h.base + h.places < 2 ^ 63)
 
+-- the ticket that a seat with these views is
 abbrev pub ticket_is : ℕ → TableId → ℕ → ℕ → ℕ → ℕ → List View → TicketIs
 ticket_is seat hall meeting base places place views =
     record { seat = seat; hall = hall; meeting = meeting; round = (chit_of (first_view views)).round; base = base; places = places; place = place }
 
+-- the seat of a ticket has its chit, and the round that its word counts
 abbrev pub TicketStands : TicketIs → List View → ℕ → Type 0
 TicketStands t views round = (views ≡ Comes (chit t) ∷ []) × (t.round % 2 ^ 32 ≡ round) × (t.meeting < t.hall.words) × (t.base + t.places < 2 ^ 63)
 
+-- the stub that a seat with these views is
 abbrev pub stub_is : ℕ → TableId → ℕ → ℕ → List View → StubIs
 stub_is seat hall meeting left views =
     record { seat = seat; hall = hall; meeting = meeting; round = (trace_of (first_view views)).round; left = left; log = (trace_of (first_view views)).log }
 
+-- what a stub knows: its meeting, its round and the moves up to its own
 abbrev pub trace : StubIs → Trace
 trace s = record { hall = s.hall; meeting = s.meeting; round = s.round; log = s.log }
 
+-- the seat of a stub has its trace, and so many parties were left after its move
 abbrev pub StubStands : StubIs → List View → ℕ → Type 0
 StubStands s views round = (views ≡ Gone (trace s) ∷ []) × (s.round % 2 ^ 32 ≡ round) × (s.left ≡ count_of (after s.round s.log))

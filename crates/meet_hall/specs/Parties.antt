@@ -1,6 +1,7 @@
 -- Where a party of a meeting stands, with the seat that it belongs to. No public clause cites this module.
 use Rattle.std.specs.Prelude.{ℕ, ◌+◌, zero, suc, Option, None, Some}
 
+-- where a party of a meeting stands (this project's)
 pub data Party : Type 0 where
   -- not of this round; its slot is empty
   idle : Party

@@ -67,17 +67,19 @@ abbrev pub HasCome : Seating → Trace → Type 0
 HasCome x t = (t.round < x.round) ⊎ ((x.round ≡ t.round) × ((newer : List Move) × (x.log ≡ newer ++ t.log)))
 
 -- where a meeting of the hall lies
-pub record IsPlaced (n : ℕ) (base places : ℕ → ℕ) (m b k : ℕ) : Type 0 where
+pub record IsLaidOut (n : ℕ) (base places : ℕ → ℕ) (m b k : ℕ) : Type 0 where
   pub below : m < n
   pub start : b ≡ base m
   pub size : k ≡ places m
 
 module _ (n : ℕ) (base places : ℕ → ℕ) where
+  -- a desk is of one of the hall's meetings, as it is laid out
   abbrev pub IsDesk : Desk → Type 0
-  IsDesk d = IsPlaced n base places d.meeting d.base d.places
+  IsDesk d = IsLaidOut n base places d.meeting d.base d.places
 
+  -- a chit is of one place of one of the hall's meetings
   abbrev pub IsChit : Chit → Type 0
-  IsChit c = IsPlaced n base places c.meeting c.base c.places × (c.place < c.places)
+  IsChit c = IsLaidOut n base places c.meeting c.base c.places × (c.place < c.places)
 
   -- what the view of seat i tells of the meetings
   abbrev pub Agrees : (ℕ → Seating) → ℕ → View → Type 0
@@ -97,6 +99,7 @@ module _ (n : ℕ) (base places : ℕ → ℕ) where
     abbrev pub RecordStands : ℕ → Seating → List (Option (Slot R N)) → Type 0
     RecordStands m x homes = Stands Empty (IsRecord fits_r x.hall m (issued_at x) (places m)) x.head (get_elem? homes (base m))
 
+    -- the slot of the note of one place
     abbrev pub NoteStands : ℕ → Seating → List (Option (Slot R N)) → ℕ → Type 0
     NoteStands m x homes p = Stands Empty (IsNote fits_n x.hall m p) (x.ticket p) (get_elem? homes (base m + suc p))
 

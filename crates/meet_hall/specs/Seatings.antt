@@ -6,6 +6,7 @@ use Rattle.meetings.specs.Meetings.{times, holder_due, count_of}
 use Rattle.meetings.specs.Moves.{after, Legal}
 use Rattle.meet_hall.specs.Parties.{Party, idle, kept, waits, puts, came, shut, out, due, live, stale, gone, ticket_come, dues}
 
+-- a meeting at a moment: its round, where its holder and its tickets stand, and what was done in this round (this project's)
 pub record Seating : Type 0 where
   pub hall : TableId
   pub round : ℕ
@@ -55,6 +56,7 @@ pub record Tallies (x : Seating) (place : ℕ) (t : Party) : Type 0 where
   pub left : times place x.left ≡ stale t
   pub taking : times place x.taking ≡ gone t
 
+-- the holder and each ticket stand as the lists of the meeting count them, and none is beyond its places
 pub record Orderly (places : ℕ) (x : Seating) : Type 0 where
   pub head : HeadMay places x x.head
   pub tallies : (p : ℕ) → p < places → Tallies x p (x.ticket p)

@@ -113,6 +113,7 @@ trace_of (Comes c) = no_trace
 trace_of (Puts c) = no_trace
 trace_of (Gone t) = t
 
+-- the one view of a seat
 abbrev pub first_view : List View → View
 first_view [] = Builds 0
 first_view (v ∷ views) = v

@@ -12,6 +12,7 @@ pub record Meeting (Kept : Type 0) : Type 0 where
   -- what the holder brought, where it has come
   pub parked : Option Kept
 
+-- 1 for true
 abbrev pub one : Bool → ℕ
 one b = if b then 1 else 0
 
@@ -47,6 +48,7 @@ module _ {Kept : Type 0} where
   abbrev pub issuing : ℕ → Meeting Kept → Meeting Kept
   issuing place x = record x { issued = x.issued ++ place ∷ [] }
 
+  -- a place may be issued while the holder has not parked, once a round
   abbrev pub MayIssue : ℕ → Meeting Kept → Type 0
   MayIssue place x = (x.parked ≡ None) × (times place x.issued ≡ 0)
 
@@ -54,6 +56,7 @@ module _ {Kept : Type 0} where
   abbrev pub parking : Kept → Meeting Kept → Meeting Kept
   parking kept x = record x { parked = Some kept }
 
+  -- the holder may park once a round
   abbrev pub MayPark : Meeting Kept → Type 0
   MayPark x = x.parked ≡ None
 
@@ -61,5 +64,6 @@ module _ {Kept : Type 0} where
   abbrev pub arriving : ℕ → Meeting Kept → Meeting Kept
   arriving place x = record x { came = place ∷ x.came }
 
+  -- a party of a place that was issued may come once
   abbrev pub MayArrive : ℕ → Meeting Kept → Type 0
   MayArrive place x = (times place x.issued ≡ 1) × (times place x.came ≡ 0)

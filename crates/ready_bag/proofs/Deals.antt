@@ -1,5 +1,6 @@
 -- Accounts are dealt out to passes, and gathered again.
-use Rattle.std.proofs.Common.{◌≡◌, ◌==◌, ℕ, zero, suc, ◌+◌, ◌-◌, ◌<◌, ◌≤◌, Bool, true, true≢false, cond, nat_lt, List, [], ◌∷◌, ◌++◌, length, set, take, drop, inl, inr, ⊎_elim, sym, refl, ap, ◌∙◌, subst, arith, ne_eqb, lt-ltb, le-ltb, length-append, take-append-drop}
+use Rattle.std.proofs.Common.{◌≡◌, ◌==◌, ℕ, zero, suc, ◌+◌, ◌-◌, ◌<◌, ◌≤◌, Bool, true, true≢false, cond, nat_lt, List, [], ◌∷◌, ◌++◌, length, set}
+use Rattle.std.proofs.Common.{take, drop, inl, inr, ⊎_elim, sym, refl, ap, ◌∙◌, subst, arith, ne_eqb, lt-ltb, le-ltb, length-append, take-append-drop}
 use Rattle.std.specs.List.{All, count_by, sum_by}
 use Rattle.std.proofs.lemmas.Bool.{cases_lt}
 use Rattle.std.proofs.lemmas.Bool.Decides.{eqb_tells}

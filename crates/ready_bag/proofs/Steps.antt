@@ -1,5 +1,6 @@
 -- A put and a take keep the rule.
-use Rattle.std.proofs.Common.{◌≡◌, ◌≢◌, ◌==◌, ℕ, zero, suc, ◌+◌, ◌<◌, ◌≤◌, Bool, true, false, true≢false, cond, nat_lt, List, [], ◌∷◌, ◌++◌, length, map, set, inl, inr, ⊎_elim, Option, Some, None, MatchOption, IfSome, sym, refl, ap, ◌∙◌, subst, arith, eq-eqb, ltb-true}
+use Rattle.std.proofs.Common.{◌≡◌, ◌≢◌, ◌==◌, ℕ, zero, suc, ◌+◌, ◌<◌, ◌≤◌, Bool, true, false, true≢false, cond, nat_lt, List, [], ◌∷◌, ◌++◌, length}
+use Rattle.std.proofs.Common.{map, set, inl, inr, ⊎_elim, Option, Some, None, MatchOption, IfSome, sym, refl, ap, ◌∙◌, subst, arith, eq-eqb, ltb-true}
 use Rattle.std.specs.List.{All, count_by}
 use Rattle.std.proofs.lemmas.List.Elements.{All-nil, All-cons, All-head, All-tail, All-push}
 use mathlib.Core.Option.{some, some-injective, some-ne-none}

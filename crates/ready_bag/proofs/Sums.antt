@@ -1,5 +1,6 @@
 -- Sums over a list of which one element is looked at or changed.
-use Rattle.std.proofs.Common.{◌≡◌, ◌≢◌, ℕ, zero, suc, ◌+◌, ◌*◌, ◌≤◌, Bool, true, false, cond, List, [], ◌∷◌, length, set, sym, refl, ap, ◌∙◌, arith, mul-add, mul-one, mul-zero}
+use Rattle.std.proofs.Common.{◌≡◌, ◌≢◌, ℕ, zero, suc, ◌+◌, ◌*◌, ◌≤◌, Bool, true, false, cond, List, [], ◌∷◌, length, set, sym, refl, ap, ◌∙◌, arith}
+use Rattle.std.proofs.Common.{mul-add, mul-one, mul-zero}
 use Rattle.std.specs.List.{sum_by, count_by, All, flat_map}
 use Rattle.std.proofs.lemmas.List.Sums.{sum_by-cons, sum_by-append, sum_by-le-sum_by}
 use mathlib.Core.Option.{some, some-injective, some-ne-none}

@@ -1,5 +1,6 @@
 -- What all accounts say together, known to the pass that has them.
-use Rattle.std.proofs.Common.{◌≡◌, ℕ, ◌+◌, ◌-◌, ◌^◌, ◌<◌, ◌≤◌, min, Bool, true, false, cond, nat_lt, List, [], ◌∷◌, ◌++◌, length, map, take, drop, get_or, slice_get, inl, inr, sym, refl, ap, ◌∙◌, subst, arith, lt-ltb, le-ltb, eqb-true, length-drop, append_assoc}
+use Rattle.std.proofs.Common.{◌≡◌, ℕ, ◌+◌, ◌-◌, ◌^◌, ◌<◌, ◌≤◌, min, Bool, true, false, cond, nat_lt, List, [], ◌∷◌, ◌++◌, length, map, take, drop}
+use Rattle.std.proofs.Common.{get_or, slice_get, inl, inr, sym, refl, ap, ◌∙◌, subst, arith, lt-ltb, le-ltb, eqb-true, length-drop, append_assoc}
 use Rattle.std.specs.List.{All, count_by, sum_by, flat_map}
 use Rattle.std.proofs.lemmas.Bool.{cases_lt}
 use Rattle.std.proofs.lemmas.List.{length-map, length-take-le}

@@ -1,5 +1,6 @@
 -- A pass with all accounts knows what became of each put.
-use Rattle.std.proofs.Common.{◌≡◌, ◌≢◌, ◌==◌, ◌&&◌, ℕ, zero, suc, ◌+◌, ◌*◌, ◌<◌, ◌≤◌, Bool, true, false, cond, List, [], ◌∷◌, ◌++◌, length, map, take, get_or, Some, slice_get, inl, inr, sym, refl, ap, ◌∙◌, subst, arith, eq-eqb, ne_eqb, append_assoc, mul-one}
+use Rattle.std.proofs.Common.{◌≡◌, ◌≢◌, ◌==◌, ◌&&◌, ℕ, zero, suc, ◌+◌, ◌*◌, ◌<◌, ◌≤◌, Bool, true, false, cond, List, [], ◌∷◌, ◌++◌, length, map, take}
+use Rattle.std.proofs.Common.{get_or, Some, slice_get, inl, inr, sym, refl, ap, ◌∙◌, subst, arith, eq-eqb, ne_eqb, append_assoc, mul-one}
 use Rattle.std.specs.List.{All, Contains, count_by, sum_by, filter, flat_map}
 use Rattle.std.proofs.lemmas.Bool.Decides.{eqb_tells}
 use Rattle.std.proofs.lemmas.List.{length-map, map-append}

@@ -6,6 +6,7 @@ use Rattle.ready_bag.specs.declared.account.Account.{Account}
 use Rattle.ready_bag.specs.declared.close.Tally.{Tally}
 
 module _ {T : Type 0} where
+  -- what the owner of an account took
   abbrev pub took : Account T → List (Numbered T)
   took account = account.took
 
@@ -13,6 +14,7 @@ module _ {T : Type 0} where
   abbrev pub count_put : List (Account T) → ℕ
   count_put accounts = sum_by (λ a. length a.put) accounts
 
+  -- how many items all accounts took
   abbrev pub count_taken : List (Account T) → ℕ
   count_taken accounts = sum_by (λ a. length a.took) accounts
 

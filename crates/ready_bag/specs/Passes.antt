@@ -22,6 +22,7 @@ pub record PassIs (T : Type 0) : Type 0 where
   pub counts : Counts
 
 module _ {T : Type 0} where
+  -- what a pass put and took
   abbrev pub account : PassIs T → Account T
   account pass = pass.account
 

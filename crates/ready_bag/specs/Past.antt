@@ -10,6 +10,7 @@ pub record Past (T : Type 0) : Type 0 where
   pub takers : List ℕ
 
 module _ {T : Type 0} where
+  -- the item of a numbered put
   abbrev pub item : Numbered T → T
   item put = put.item
 

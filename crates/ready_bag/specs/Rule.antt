@@ -49,6 +49,7 @@ module _ {T : Type 0} where
   abbrev pub charge : ℕ → Knows T → ℕ
   charge owner v = count_by (is_owner owner) v.accounts
 
+  -- how many accounts a pass has
   abbrev pub charges : Knows T → ℕ
   charges v = length v.accounts
 
@@ -62,6 +63,7 @@ module _ {T : Type 0} where
     pub putters : All (λ put. put.owner < owners) past.puts
     pub takers : All (λ taker. taker < owners) past.takers
 
+  -- the rule of the queue: nothing was dealt yet, or each account is in the charge of one pass
   abbrev pub IsRuled : List T → List (Knows T) → Type 0
   IsRuled items views = ((items ≡ []) × (views ≡ undealt ∷ [])) ⊎ ((past : Past T) × (owners : ℕ) × IsDealt past owners items views)
 

@@ -1,5 +1,6 @@
 -- The graph as it is built keeps what it should.
-use Rattle.std.proofs.Common.{◌≡◌, ℕ, ◌+◌, ◌<◌, ◌≤◌, ◌==◌, ◌↔◌, Bool, true, false, cond, List, length, get_or, replicate, slice_get, Some, refl, ap, sym, ◌∙◌, subst, inl, inr, arith}
+use Rattle.std.proofs.Common.{◌≡◌, ℕ, ◌+◌, ◌<◌, ◌≤◌, ◌==◌, ◌↔◌, Bool, true, false, cond, List, length, get_or, replicate, slice_get, Some, refl, ap}
+use Rattle.std.proofs.Common.{sym, ◌∙◌, subst, inl, inr, arith}
 use Rattle.std.specs.List.{All, Contains, count_by}
 use Rattle.std.proofs.lemmas.List.{get_or_read, length-replicate}
 use Rattle.std.proofs.lemmas.List.Elements.{Contains-get_or}
@@ -13,7 +14,7 @@ use Rattle.region_deps.specs.Links.{link, is_gone, Waiting, IsWithin}
 use Rattle.region_deps.specs.Clashes.{task_at, WaitsFor, IsFull, IsSound}
 use Rattle.region_deps.specs.Lines.{regions_from, accesses_before, IsSmallTask}
 use Rattle.region_deps.specs.Epochs.{IsGrouped, IsBarrier, HasBarriers, held_of}
-use Rattle.region_deps.specs.Holding.{IsOrderly, region_count, IsLinkedUp, IsHeld}
+use Rattle.region_deps.specs.Holding.{IsOrderly, region_count, IsLinkedUp, IsUpToDate}
 use Rattle.region_deps.proofs.RegionLemmas.{behind}
 use Rattle.region_deps.proofs.LayoutLemmas.{never_gone}
 use Rattle.region_deps.proofs.EpochLemmas.{held_at_first}
@@ -80,7 +81,7 @@ pub held_first : (tasks : List TaskDef) (links : List Link) (w : Waiting) (first
     → heads' ≡ heads →
     length waiting ≡ length heads' → ((head : ℕ) → head < length heads' → get_or waiting head 0 ≡ count_by (λ x. x == head) heads')
     → released ≡ replicate (length tasks) false →
-    IsHeld tasks w first heads waiting released
+    IsUpToDate tasks w first heads waiting released
 held_first tasks links w first heads heads' waiting released accesses orderly small up first_long starts count same there unhanded heads_are many sizes
     unreleased =
     let g = up.grouped in

@@ -1,5 +1,6 @@
 -- A task that is handed out, and one that is released, leave what the graph keeps.
-use Rattle.std.proofs.Common.{◌≡◌, ℕ, ◌+◌, ◌-◌, ◌<◌, ◌≤◌, ◌⊎◌, ◌==◌, Bool, true, false, cond, List, length, get_or, set, slice_get, Some, refl, ap, sym, ◌∙◌, subst, inl, inr, arith}
+use Rattle.std.proofs.Common.{◌≡◌, ℕ, ◌+◌, ◌-◌, ◌<◌, ◌≤◌, ◌⊎◌, ◌==◌, Bool, true, false, cond, List, length, get_or, set, slice_get, Some, refl, ap}
+use Rattle.std.proofs.Common.{sym, ◌∙◌, subst, inl, inr, arith}
 use Rattle.std.specs.List.{Contains}
 use Rattle.std.proofs.lemmas.List.{length-set, get_or-set_other, get_or_read}
 use Rattle.std.proofs.lemmas.List.Sums.{sum_by-take-le}
@@ -11,7 +12,7 @@ use Rattle.region_deps.specs.declared.graph.Link.{Link}
 use Rattle.region_deps.specs.Links.{link, is_gone, IsLetIn, Waiting, IsOpen}
 use Rattle.region_deps.specs.Clashes.{task_at}
 use Rattle.region_deps.specs.Lines.{regions_from, access_count}
-use Rattle.region_deps.specs.Holding.{region_count, IsGone, IsGoneIf, IsLinkedUp, IsHeld}
+use Rattle.region_deps.specs.Holding.{region_count, IsGone, IsGoneIf, IsLinkedUp, IsUpToDate}
 use Rattle.region_deps.proofs.RegionLemmas.{placed}
 use Rattle.region_deps.proofs.EpochLemmas.{held_less}
 use Rattle.region_deps.proofs.Precedence.{region_count_is, before_all, before_more}
@@ -30,11 +31,11 @@ waiting_is w links gone handed links_are gone_is handed_is =
 
 -- a task that is open is handed out
 pub held_next : (tasks : List TaskDef) (w w' : Waiting) (first heads waiting : List ℕ) (released : List Bool) (task : ℕ)
-    → IsHeld tasks w first heads waiting released → IsOpen w task →
-    w'.links ≡ w.links → w'.gone ≡ w.gone → w'.handed ≡ set w.handed task true → IsHeld tasks w' first heads waiting released
+    → IsUpToDate tasks w first heads waiting released → IsOpen w task →
+    w'.links ≡ w.links → w'.gone ≡ w.gone → w'.handed ≡ set w.handed task true → IsUpToDate tasks w' first heads waiting released
 held_next tasks w w' first heads waiting released task h opened links gone handed =
     let now : Waiting = record { links = w.links; gone = w.gone; handed = set w.handed task true } in
-    let next : IsHeld tasks now first heads waiting released = record {
+    let next : IsUpToDate tasks now first heads waiting released = record {
       orderly = h.orderly;
       small = h.small;
       linked = h.linked;
@@ -53,7 +54,8 @@ held_next tasks w w' first heads waiting released task h opened links gone hande
       ];
       started = λ u is. marked_still w.handed task u (h.started u is);
     } in
-    subst (λ (x : Waiting). IsHeld tasks x first heads waiting released) (sym (waiting_is w' w.links w.gone (set w.handed task true) links gone handed)) next
+    subst (λ (x : Waiting). IsUpToDate tasks x first heads waiting released)
+    (sym (waiting_is w' w.links w.gone (set w.handed task true) links gone handed)) next
 
 -- what the release of a task may rest on
 pub record IsReleasable (tasks : List TaskDef) (w : Waiting) (first heads waiting : List ℕ) (task : ℕ) : Type 0 where
@@ -66,7 +68,7 @@ pub record IsReleasable (tasks : List TaskDef) (w : Waiting) (first heads waitin
   pub held : 0 < get_or waiting (get_or heads task 0) 0
 
 pub releasable : (tasks : List TaskDef) (w : Waiting) (first heads waiting : List ℕ) (released : List Bool) (task : ℕ)
-    → IsHeld tasks w first heads waiting released →
+    → IsUpToDate tasks w first heads waiting released →
     slice_get released task ≡ Some false → IsReleasable tasks w first heads waiting task
 releasable tasks w first heads waiting released task h held =
     let exists : task < length tasks = omega (arith, slice_get_within released task false held, h.released_long) in
@@ -88,7 +90,7 @@ releasable tasks w first heads waiting released task h held =
 
 -- the accesses of the task, and they alone, are gone with it
 region_done : (tasks : List TaskDef) (w w' : Waiting) (first heads waiting : List ℕ) (released : List Bool) (task k : ℕ)
-    → IsHeld tasks w first heads waiting released → task < length tasks →
+    → IsUpToDate tasks w first heads waiting released → task < length tasks →
     IsGone w w' (get_or first task 0) (get_or first (task + 1) 0) → k < region_count tasks
     → is_gone w'.gone k ≡ get_or (set released task true) (task_at (regions_from 0 tasks) k) false
 region_done tasks w w' first heads waiting released task k h exists r lt =
@@ -133,10 +135,11 @@ still_gone_if w w' source k now r was = elim (cases_eq k source) [
 
 -- the task is released: its accesses go, and its group where it was the last task of that
 pub held_release : (tasks : List TaskDef) (w w' w'' : Waiting) (first heads waiting waiting' : List ℕ) (released : List Bool) (task : ℕ)
-    → IsHeld tasks w first heads waiting released →
+    → IsUpToDate tasks w first heads waiting released →
     slice_get w.handed task ≡ Some true → slice_get released task ≡ Some false → IsGone w w' (get_or first task 0) (get_or first (task + 1) 0) →
     IsGoneIf w' w'' (region_count tasks + get_or heads task 0) (get_or waiting (get_or heads task 0) 0 - 1 == 0) →
-    waiting' ≡ set waiting (get_or heads task 0) (get_or waiting (get_or heads task 0) 0 - 1) → IsHeld tasks w'' first heads waiting' (set released task true)
+    waiting' ≡ set waiting (get_or heads task 0) (get_or waiting (get_or heads task 0) 0 - 1)
+    → IsUpToDate tasks w'' first heads waiting' (set released task true)
 held_release tasks w w' w'' first heads waiting waiting' released task h was_handed was_held r i e =
     let can = releasable tasks w first heads waiting released task h was_held in
     let head : ℕ = get_or heads task 0 in
@@ -213,7 +216,7 @@ pub record IsRange (tasks : List TaskDef) (w : Waiting) (first : List ℕ) (task
   pub upto_is : upto ≡ get_or first (task + 1) 0
 
 pub range_read : (tasks : List TaskDef) (w : Waiting) (first heads waiting : List ℕ) (released : List Bool) (task from upto : ℕ)
-    → IsHeld tasks w first heads waiting released →
+    → IsUpToDate tasks w first heads waiting released →
     slice_get released task ≡ Some false → from ≡ get_or first task from → upto ≡ get_or first (task + 1) upto → IsRange tasks w first task from upto
 range_read tasks w first heads waiting released task from upto h held from_read upto_read =
     let can = releasable tasks w first heads waiting released task h held in
@@ -237,7 +240,7 @@ pub record IsGroup (tasks : List TaskDef) (w : Waiting) (heads waiting : List �
   pub head_is : head ≡ get_or heads task 0
 
 pub group_of : (tasks : List TaskDef) (w : Waiting) (first heads waiting : List ℕ) (released : List Bool) (task many accesses head : ℕ)
-    → IsHeld tasks w first heads waiting released →
+    → IsUpToDate tasks w first heads waiting released →
     slice_get released task ≡ Some false → many ≡ length heads → accesses ≡ get_or first many accesses → head ≡ get_or heads task head
     → IsGroup tasks w heads waiting task accesses head
 group_of tasks w first heads waiting released task many accesses head h held many_is accesses_read head_read =
@@ -256,10 +259,10 @@ group_of tasks w first heads waiting released task many accesses head h held man
 
 pub held_release_read : (tasks : List TaskDef) (w w' w'' : Waiting) (first heads waiting waiting' : List ℕ) (released : List Bool)
     (task from upto accesses head : ℕ) →
-    IsHeld tasks w first heads waiting released → slice_get w.handed task ≡ Some true → slice_get released task ≡ Some false
+    IsUpToDate tasks w first heads waiting released → slice_get w.handed task ≡ Some true → slice_get released task ≡ Some false
     → IsRange tasks w first task from upto →
     IsGroup tasks w heads waiting task accesses head → IsGone w w' from upto → IsGoneIf w' w'' (accesses + head) (get_or waiting head 0 - 1 == 0) →
-    waiting' ≡ set waiting head (get_or waiting head 0 - 1) → IsHeld tasks w'' first heads waiting' (set released task true)
+    waiting' ≡ set waiting head (get_or waiting head 0 - 1) → IsUpToDate tasks w'' first heads waiting' (set released task true)
 held_release_read tasks w w' w'' first heads waiting waiting' released task from upto accesses head h was_handed was_held range group r i e =
     let r_now = subst (λ (n : ℕ). IsGone w w' n (get_or first (task + 1) 0)) range.from_is (subst (λ (n : ℕ). IsGone w w' from n) range.upto_is r) in
     let i_now = subst (λ (n : ℕ). IsGoneIf w' w'' (region_count tasks + n) (get_or waiting n 0 - 1 == 0)) group.head_is

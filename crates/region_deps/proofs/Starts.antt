@@ -1,5 +1,6 @@
 -- A task may start exactly where the links let it in.
-use Rattle.std.proofs.Common.{◌≡◌, ℕ, zero, suc, ◌+◌, ◌-◌, ◌<◌, ◌⊎◌, Bool, true, false, List, length, get_or, set, replicate, slice_get, Some, refl, ap, sym, ◌∙◌, subst, inl, inr, arith}
+use Rattle.std.proofs.Common.{◌≡◌, ℕ, zero, suc, ◌+◌, ◌-◌, ◌<◌, ◌⊎◌, Bool, true, false, List, length, get_or, set, replicate, slice_get, Some, refl}
+use Rattle.std.proofs.Common.{ap, sym, ◌∙◌, subst, inl, inr, arith}
 use Rattle.std.proofs.lemmas.List.{get_or-set_other, get_or_past}
 use Rattle.std.proofs.lemmas.Grind.{get_or-set_at}
 use Rattle.std.proofs.lemmas.Option.{slice_get_within, slice_get_cases, slice_get-get_or, get_or_from_slice_get}
@@ -11,7 +12,7 @@ use Rattle.region_deps.specs.Links.{link, is_gone, IsLetIn, Waiting}
 use Rattle.region_deps.specs.Clashes.{task_at, IsClosed}
 use Rattle.region_deps.specs.Lines.{regions_from}
 use Rattle.region_deps.specs.Epochs.{rank_at, epoch_at, IsGrouped}
-use Rattle.region_deps.specs.Holding.{IsOrderly, region_count, IsHeld}
+use Rattle.region_deps.specs.Holding.{IsOrderly, region_count, IsUpToDate}
 use Rattle.region_deps.proofs.LayoutLemmas.{never_gone}
 use Rattle.region_deps.proofs.EpochLemmas.{own, differs, heads_rise, one_head, none_held, all_released}
 use Rattle.region_deps.proofs.Precedence.{rank_is, epoch_is, after, precedes_from_clash, clash_from_precedes}
@@ -39,7 +40,7 @@ pub never_marked : (n u : ℕ) → ¬ (slice_get (replicate n false) u ≡ Some 
 never_marked n u is = absurd (false≢true (sym (never_gone n u) ∙ get_or_from_slice_get (replicate n false) u true false is))
 
 -- all earlier groups of the rank are released, where the task is let in
-before_group : (tasks : List TaskDef) (w : Waiting) (first heads waiting : List ℕ) (released : List Bool) → IsHeld tasks w first heads waiting released →
+before_group : (tasks : List TaskDef) (w : Waiting) (first heads waiting : List ℕ) (released : List Bool) → IsUpToDate tasks w first heads waiting released →
     (fuel task u : ℕ) → task < fuel → task < length tasks → IsLetIn w.links (is_gone w.gone) task → u < get_or heads task 0
     → rank_at tasks u ≡ rank_at tasks task →
     slice_get released u ≡ Some true
@@ -70,7 +71,7 @@ before_group tasks w first heads waiting released h (suc fuel) task u fueled lt 
     ]
 
 -- what is gone was let in first
-pub closed : (tasks : List TaskDef) (w : Waiting) (first heads waiting : List ℕ) (released : List Bool) → IsHeld tasks w first heads waiting released →
+pub closed : (tasks : List TaskDef) (w : Waiting) (first heads waiting : List ℕ) (released : List Bool) → IsUpToDate tasks w first heads waiting released →
     IsClosed (regions_from 0 tasks) w.links (is_gone w.gone)
 closed tasks w first heads waiting released h k j within here gone =
     let done = marked_at released (task_at (regions_from 0 tasks) j) (sym (h.regions_gone j within) ∙ gone) in
@@ -85,7 +86,7 @@ has_passed program released u t passed = passed
 
 -- a task that is let in may start
 pub starts_if_let_in : (program : Program) (w : Waiting) (first heads waiting : List ℕ) (released : List Bool)
-    → IsHeld program.tasks.items w first heads waiting released →
+    → IsUpToDate program.tasks.items w first heads waiting released →
     (task : ℕ) → task < length program.tasks.items → IsLetIn w.links (is_gone w.gone) task → MayStart program (record { released = released }) task
 starts_if_let_in program w first heads waiting released h task lt let_in = record {
   exists = lt;
@@ -155,7 +156,7 @@ precedes_by_epoch program heads orderly g task before x lt next ranks x_in one =
 
 -- a task that may start is let in
 pub let_in_if_starts : (program : Program) (w : Waiting) (first heads waiting : List ℕ) (released : List Bool)
-    → IsHeld program.tasks.items w first heads waiting released →
+    → IsUpToDate program.tasks.items w first heads waiting released →
     (task : ℕ) → MayStart program (record { released = released }) task → IsLetIn w.links (is_gone w.gone) task
 let_in_if_starts program w first heads waiting released h task start k here =
     let tasks : List TaskDef = program.tasks.items in

@@ -4,9 +4,11 @@ use Rattle.region_deps.specs.declared.graph.Link.{Link}
 use Rattle.region_deps.specs.declared.segments.Region.{Region}
 use Rattle.region_deps.specs.Links.{link, IsLetIn}
 
+-- the region beyond all others
 abbrev pub nothing : Region
 nothing = record { task = 0; from = 0; to = 0; writes = false }
 
+-- the region with this number
 abbrev pub region_at : List Region → ℕ → Region
 region_at regions k = slice_index_or regions k nothing
 

@@ -3,9 +3,11 @@ use Rattle.std.specs.Prelude.{◌≡◌, ◌==◌, ℕ, ◌+◌, ◌<◌, ◌≤
 use Rattle.rt_base.specs.declared.data.TaskDef.{TaskDef}
 use Rattle.region_deps.specs.declared.graph.Link.{Link}
 
+-- the rank of a task
 abbrev pub rank_at : List TaskDef → ℕ → ℕ
 rank_at tasks task = slice_index (map (λ (def : TaskDef). def.rank) tasks) task
 
+-- the epoch of a task
 abbrev pub epoch_at : List TaskDef → ℕ → ℕ
 epoch_at tasks task = slice_index (map (λ (def : TaskDef). def.epoch) tasks) task
 

@@ -1,5 +1,6 @@
 -- How the dependency graph keeps what the order of tasks asks. No public clause cites this module.
-use Rattle.std.specs.Prelude.{◌≡◌, ◌==◌, ℕ, ◌+◌, ◌<◌, ◌≤◌, Bool, true, false, ◌⊎◌, List, All, AllPairs, Contains, length, sum_by, slice_get, slice_index, slice_index_or, Some}
+use Rattle.std.specs.Prelude.{◌≡◌, ◌==◌, ℕ, ◌+◌, ◌<◌, ◌≤◌, Bool, true, false, ◌⊎◌, List, All, AllPairs, Contains, length, sum_by, slice_get}
+use Rattle.std.specs.Prelude.{slice_index, slice_index_or, Some}
 use Rattle.rt_base.specs.declared.data.TaskDef.{TaskDef}
 use Rattle.rt_base.specs.WellFormed.{InOrder}
 use Rattle.region_deps.specs.declared.graph.Link.{Link}
@@ -44,7 +45,7 @@ pub record IsLinkedUp (tasks : List TaskDef) (links : List Link) (heads : List �
   pub grouped : IsGrouped tasks heads
 
 -- the accesses of released tasks are gone, the groups with no task left are gone, and what was handed out was let in
-pub record IsHeld (tasks : List TaskDef) (w : Waiting) (first heads waiting : List ℕ) (released : List Bool) : Type 0 where
+pub record IsUpToDate (tasks : List TaskDef) (w : Waiting) (first heads waiting : List ℕ) (released : List Bool) : Type 0 where
   pub orderly : IsOrderly tasks
   pub small : All IsSmallTask tasks
   pub linked : IsLinkedUp tasks w.links heads

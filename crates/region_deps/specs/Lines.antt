@@ -10,6 +10,7 @@ use Rattle.region_deps.specs.declared.segments.Region.{Region}
 abbrev pub place_of : ℕ → ℕ → ℕ → ℕ
 place_of rank array cell = rank * 281474976710656 + array * 4294967296 + cell
 
+-- the region of an access: from and to on the line of its rank, and whether it writes
 abbrev pub region_of : ℕ → ℕ → Access → Region
 region_of task rank access = record {
   task = task;
@@ -22,10 +23,12 @@ region_of task rank access = record {
 abbrev pub regions_of : ℕ → TaskDef → List Region
 regions_of task def = map (region_of task def.rank) def.accesses.items
 
+-- the regions of the tasks from this one on, in the order of the tasks
 abbrev pub regions_from : ℕ → List TaskDef → List Region
 regions_from task [] = []
 regions_from task (def ∷ defs) = regions_of task def ++ regions_from (task + 1) defs
 
+-- how many accesses a task has
 abbrev pub access_count : TaskDef → ℕ
 access_count def = length def.accesses.items
 
@@ -39,6 +42,7 @@ pub record IsSmall (access : Access) : Type 0 where
   pub from : access.span.from < 4294967296
   pub to : access.span.to < 4294967296
 
+-- the numbers of a task's rank and accesses are no greater than their types allow
 pub record IsSmallTask (def : TaskDef) : Type 0 where
   pub rank : def.rank < 65536
   pub accesses : All IsSmall def.accesses.items

@@ -2,6 +2,7 @@
 use Rattle.std.specs.Prelude.{◌≡◌, ◌==◌, ℕ, ◌<◌, Bool, true, false, not, ◌&&◌, List, Contains, slice_get, slice_index_or, Some}
 use Rattle.region_deps.specs.declared.graph.Link.{Link}
 
+-- the task waits until the source is gone
 abbrev pub link : ℕ → ℕ → Link
 link source task = record { source = source; task = task }
 

@@ -1,5 +1,6 @@
 -- How the graph keeps its links, its counts and its list of startable tasks. No public clause cites this module.
-use Rattle.std.specs.Prelude.{◌≡◌, ◌==◌, ℕ, zero, suc, ◌+◌, ◌<◌, ◌≤◌, Bool, true, false, cond, List, [], ◌∷◌, All, length, count_by, slice_index_or, slice_range}
+use Rattle.std.specs.Prelude.{◌≡◌, ◌==◌, ℕ, zero, suc, ◌+◌, ◌<◌, ◌≤◌, Bool, true, false, cond, List, [], ◌∷◌, All, length, count_by, slice_index_or}
+use Rattle.std.specs.Prelude.{slice_range}
 use Rattle.region_deps.specs.declared.graph.Link.{Link}
 use Rattle.region_deps.specs.Links.{is_to, is_between, holds, IsWithin}
 

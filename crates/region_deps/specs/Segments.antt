@@ -8,6 +8,7 @@ pub record Since : Type 0 where
   pub writer : Option ℕ
   pub readers : List ℕ
 
+-- the segment before any region
 abbrev pub untouched : Since
 untouched = record { writer = None; readers = [] }
 
@@ -21,6 +22,7 @@ abbrev pub touched : Since → ℕ → Bool → Since
 touched since region true = record { writer = Some region; readers = [] }
 touched since region false = record { writer = since.writer; readers = since.readers ++ region ∷ [] }
 
+-- the segment with this number
 abbrev pub since_at : List Since → ℕ → Since
 since_at segments at = slice_index_or segments at untouched
 

@@ -41,13 +41,13 @@ pub struct Deps {
 
 impl Model for Deps {
     ghost use Rattle.region_deps.specs.Readiness.{Readiness};
-    ghost use Rattle.region_deps.specs.Holding.{IsHeld};
+    ghost use Rattle.region_deps.specs.Holding.{IsUpToDate};
 
     ghost Value = { Readiness };
 
     ghost view = { λ d. record { program = d.program.value; handed = d.graph.handed; gone = record { released = d.released.items } } };
 
-    ghost invariant = { λ d. IsHeld d.program.value.tasks.items d.graph d.first.items d.heads.items d.waiting.items d.released.items };
+    ghost invariant = { λ d. IsUpToDate d.program.value.tasks.items d.graph d.first.items d.heads.items d.waiting.items d.released.items };
 }
 
 impl Deps {

@@ -18,6 +18,7 @@ use Rattle.report_lines.specs.Lines.{line, numbers_text, trace_text}
 abbrev pub cells_of : Program → List ℤ → ℕ → ℕ → List ℤ
 cells_of program memory rank array = take (array_len program rank array) (drop (address program rank array 0) memory)
 
+-- the name of an array
 abbrev pub name_of : Program → ℕ → List ℕ
 name_of program array = unwrap_or (slice_get program.names.items array) []
 

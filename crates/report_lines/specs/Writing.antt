@@ -15,6 +15,7 @@ pub record Output : Type 0 where
   pub faults : ℕ
   pub waiting : Waiting
 
+-- what was written, how often writing failed, and what waits
 abbrev pub output : Option (List ℕ) → ℕ → Waiting → Output
 output written faults waiting = record { written = written; faults = faults; waiting = waiting }
 

@@ -1,5 +1,6 @@
 -- What a posting does to the requests: who is posted, matched and complete after it.
-use Rattle.std.proofs.Common.{◌≡◌, ℕ, Bool, true, false, ◌&&◌, ◌||◌, cond, List, [], ◌∷◌, ℤ, find, option_to_list, Option, Some, None, option_map, IfSome, is_some, sym, refl, ap, ◌∙◌}
+use Rattle.std.proofs.Common.{◌≡◌, ℕ, Bool, true, false, ◌&&◌, ◌||◌, cond, List, [], ◌∷◌, ℤ, find, option_to_list, Option, Some, None, option_map}
+use Rattle.std.proofs.Common.{IfSome, is_some, sym, refl, ap, ◌∙◌}
 use Rattle.std.specs.List.{list_any}
 use Rattle.std.proofs.lemmas.List.Folds.{list_any-append, find-append}
 use Rattle.std.proofs.lemmas.Bool.{or_right, or_from, false≢true}
@@ -18,7 +19,8 @@ use Rattle.rt_base.specs.declared.data.TaskDef.{TaskDef}
 use Rattle.rt_base.specs.declared.data.Program.{Program}
 use Rattle.rt_base.specs.Operations.{posting_of}
 use Rattle.rt_base.specs.Matching.{Message, Receive, same_request}
-use Rattle.rt_base.specs.Exchange.{Exchange, Match, Posting, Sent, Asked, Nowhere, sent_by, asked_by, posting_by, posting_or_nowhere, posting_of_task, what_is_posted, match_made, exchange_after, other_of, partner_of, post, partner}
+use Rattle.rt_base.specs.Exchange.{Exchange, Match, Posting, Sent, Asked, Nowhere, sent_by, asked_by, posting_by, posting_or_nowhere, posting_of_task}
+use Rattle.rt_base.specs.Exchange.{what_is_posted, match_made, exchange_after, other_of, partner_of, post, partner}
 use Rattle.rt_base.specs.Completion.{is_party, match_with, is_posted, is_complete, completes_alone}
 use Rattle.rt_base.proofs.SameRequest.{same_request-self, same_request-comm}
 

@@ -1,5 +1,6 @@
 -- When a request is complete, what a receive stores, and the status.
-use Rattle.std.specs.Prelude.{ℕ, Bool, true, false, ◌||◌, ◌&&◌, not, nat_le, nat_lt, min, length, List, [], ◌∷◌, take, find, ℤ, pos, negsuc, Option, Some, None, is_some, if◌then◌else◌}
+use Rattle.std.specs.Prelude.{ℕ, Bool, true, false, ◌||◌, ◌&&◌, not, nat_le, nat_lt, min, length, List, [], ◌∷◌, take, find, ℤ, pos, negsuc, Option}
+use Rattle.std.specs.Prelude.{Some, None, is_some, if◌then◌else◌}
 use Rattle.std.specs.List.{list_any}
 use Rattle.rt_base.specs.declared.data.ReqNo.{ReqNo}
 use Rattle.rt_base.specs.declared.data.Span.{Span}
@@ -33,6 +34,7 @@ is_null peer.Null = true
 abbrev pub completes_at_once : ℕ → How → Span → Peer → Bool
 completes_at_once eager how span whom = is_null whom || (is_standard how && nat_le (span_len span) eager)
 
+-- whether a posting is complete before it is matched: an eager send, or one to or from no process (MPI 4.0, 3.4 and 3.10)
 abbrev pub completes_alone : ℕ → Option Op → Bool
 completes_alone eager operation = by_parts_of false (λ posted. completes_at_once eager posted.how posted.span posted.peer) (λ waited. false) operation
 
@@ -68,19 +70,23 @@ message_status span message = record {
   error = if nat_lt (span_len span) (length message.cells) then 1 else 0;
 }
 
+-- the status of a receive: that of its message, of no process, or the empty one (MPI 4.0, 3.2.5, 3.7.3 and 3.10)
 abbrev pub receive_status : Span → Peer → Option Match → Status
 receive_status span whom None = if is_null whom then null_status else empty_status
 receive_status span whom (Some found) = message_status span found.message
 
+-- the cells that a receive stores
 abbrev pub receive_cells : Span → Option Match → List ℤ
 receive_cells span None = []
 receive_cells span (Some found) = stored_cells span found.message
 
+-- the status of an operation by its match: of a send it is the empty one
 abbrev pub status_by : Option Match → Option Op → Status
 status_by found operation =
     by_parts_of empty_status (λ posted. if is_receive posted.how then receive_status posted.span posted.peer found else empty_status) (λ waited. empty_status)
     operation
 
+-- the cells that an operation stores by its match
 abbrev pub cells_by : Option Match → Option Op → List ℤ
 cells_by found operation =
     by_parts_of [] (λ posted. if is_receive posted.how then receive_cells posted.span found else []) (λ waited. []) operation

@@ -1,5 +1,6 @@
 -- The mailboxes of all ranks, what was posted, and what was matched.
-use Rattle.std.specs.Prelude.{ℕ, List, [], ◌∷◌, ◌++◌, ℤ, replicate, slice_get, slice_set, slice_index_or, position, remove, Option, Some, None, option_map, option_and_then, option_to_list}
+use Rattle.std.specs.Prelude.{ℕ, List, [], ◌∷◌, ◌++◌, ℤ, replicate, slice_get, slice_set, slice_index_or, position, remove, Option, Some, None}
+use Rattle.std.specs.Prelude.{option_map, option_and_then, option_to_list}
 use Rattle.rt_base.specs.declared.data.ReqNo.{ReqNo}
 use Rattle.rt_base.specs.declared.data.How.{How}
 use Rattle.rt_base.specs.declared.data.How.TheVariants as how
@@ -19,6 +20,7 @@ pub record Mailbox : Type 0 where
   pub messages : List Message
   pub receives : List Receive
 
+-- the mailbox before any posting
 abbrev pub no_mail : Mailbox
 no_mail = record { messages = []; receives = [] }
 
@@ -82,10 +84,12 @@ abbrev pub posted_by : ReqNo → ℕ → List ℤ → Op → Posting
 posted_by req rank cells operation =
     given Nowhere (λ parts. posting_by parts.how req rank parts.peer parts.tag parts.comm cells) (posting_parts operation)
 
+-- the posting that an operation of the program is
 abbrev pub posting_or_nowhere : ReqNo → ℕ → List ℤ → Option Op → Posting
 posting_or_nowhere req rank cells None = Nowhere
 posting_or_nowhere req rank cells (Some operation) = posted_by req rank cells operation
 
+-- the posting that a request of a task is
 abbrev pub posting_of_task : Program → ReqNo → List ℤ → Option TaskDef → Posting
 posting_of_task program req cells None = Nowhere
 posting_of_task program req cells (Some task) = posting_or_nowhere req task.rank cells (posting_of program req)
@@ -109,6 +113,7 @@ pub record Exchange : Type 0 where
 abbrev pub silent : ℕ → Exchange
 silent ranks = record { posted = []; mailboxes = replicate ranks no_mail; matches = [] }
 
+-- the mailbox of a rank
 abbrev pub mailbox_of : Exchange → ℕ → Mailbox
 mailbox_of exchange rank = slice_index_or exchange.mailboxes rank no_mail
 

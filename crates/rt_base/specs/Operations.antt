@@ -1,5 +1,6 @@
 -- The operations of a body: their parts, which post, which block, and what they name.
-use Rattle.std.specs.Prelude.{ℕ, Bool, true, false, not, List, [], ◌∷◌, take, filter, count_by, slice_get, ℤ, Option, Some, None, is_some, option_and_then, if◌then◌else◌}
+use Rattle.std.specs.Prelude.{ℕ, Bool, true, false, not, List, [], ◌∷◌, take, filter, count_by, slice_get, ℤ, Option, Some, None, is_some}
+use Rattle.std.specs.Prelude.{option_and_then, if◌then◌else◌}
 use Rattle.rt_base.specs.declared.data.TaskNo.{TaskNo}
 use Rattle.rt_base.specs.declared.data.ReqNo.{ReqNo}
 use Rattle.rt_base.specs.declared.data.Span.{Span}

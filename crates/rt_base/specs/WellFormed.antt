@@ -1,5 +1,6 @@
 -- What holds of every program that is run: all that the language asks of it. The limits are this project's own.
-use Rattle.std.specs.Prelude.{◌≡◌, ◌≢◌, ℕ, ◌+◌, ◌*◌, ◌^◌, ◌<◌, ◌≤◌, Bool, true, false, List, [], ◌∷◌, ◌++◌, length, Contains, All, AllPairs, Any, sum, sum_by, count_by, filter, slice_index_or, ℤ, pos, ◌≤ℤ◌, Option, Some, None, IfSome, ⊤, if◌then◌else◌}
+use Rattle.std.specs.Prelude.{◌≡◌, ◌≢◌, ℕ, ◌+◌, ◌*◌, ◌^◌, ◌<◌, ◌≤◌, Bool, true, false, List, [], ◌∷◌, ◌++◌, length, Contains, All, AllPairs, Any, sum}
+use Rattle.std.specs.Prelude.{sum_by, count_by, filter, slice_index_or, ℤ, pos, ◌≤ℤ◌, Option, Some, None, IfSome, ⊤, if◌then◌else◌}
 use Rattle.std.specs.List.{list_any}
 use Rattle.rt_base.specs.declared.data.Span.{Span}
 use Rattle.rt_base.specs.declared.data.Access.{Access}
@@ -65,11 +66,13 @@ NoSource None None = ⊤
 NoSource None (Some right) = ⊥
 NoSource (Some left) right = ⊥
 
+-- a kernel with one source: the left one, of which this holds
 abbrev pub OneSource : (Span → Type 0) → Option Span → Option Span → Type 0
 OneSource Fact None right = ⊥
 OneSource Fact (Some left) None = Fact left
 OneSource Fact (Some left) (Some right) = ⊥
 
+-- a kernel with two sources, of which this holds
 abbrev pub TwoSources : (Span → Span → Type 0) → Option Span → Option Span → Type 0
 TwoSources Fact None right = ⊥
 TwoSources Fact (Some left) None = ⊥
@@ -113,9 +116,11 @@ abbrev pub IsSendOf : Program → TaskDef → Span → Peer → TagSel → Optio
 IsSendOf program task span whom selected None = MayRead program task span × IsAddress whom selected
 IsSendOf program task span whom selected (Some status) = ⊥
 
+-- a receive writes within the task's accesses, and so does its status, which has four cells
 abbrev pub IsReceiveOf : Program → TaskDef → Span → Option Span → Type 0
 IsReceiveOf program task span status = MayWrite program task span × OfSpan (λ cells. MayWrite program task cells × (span_len cells ≡ 4)) status
 
+-- a posting may be one of the task, by how it is posted
 abbrev pub IsPostingOf : Program → TaskDef → How → Span → Peer → TagSel → Option Span → Type 0
 IsPostingOf program task how.Send span whom selected status = IsSendOf program task span whom selected status
 IsPostingOf program task how.Ssend span whom selected status = IsSendOf program task span whom selected status

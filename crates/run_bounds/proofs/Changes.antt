@@ -33,7 +33,7 @@ use Rattle.task_machine.specs.Course.{moves_left, posted_by_phase}
 use Rattle.task_machine.specs.Laws.{is_blocking_call}
 use Rattle.tidy_runs.specs.Tidy.{bindings}
 use Rattle.task_machine.proofs.Stops.{posted_by-stop, left_at_stop, stop_started}
-use Rattle.run_bounds.specs.Fits.{IsPlaced}
+use Rattle.run_bounds.specs.Fits.{MayStand}
 use Rattle.run_bounds.specs.Bounds.{tells_late}
 use Rattle.run_bounds.proofs.Rooms.{postings_left}
 use Rattle.run_bounds.proofs.Tells.{to_tell, at_drop, drop_next, tell_by_stop, tell_next, stop_is_placed, posted_within, blocking_there, told_few}
@@ -47,7 +47,7 @@ pub record Changes (s : State) (t : ℕ) (def : TaskDef) (was : Task) (new : Sta
   pub later : posted_by_phase def was.phase ≤ posted_by_phase def now.phase
   pub posted : (u n : ℕ) → is_posted new.exchange (request u n) ≡ true
       → (is_posted s.exchange (request u n) ≡ true) ⊎ ((u ≡ t) × (n < posted_by_phase def now.phase))
-  pub placed : IsPlaced def now.phase
+  pub placed : MayStand def now.phase
   pub told : length new.statuses + to_tell def now.phase ≤ length s.statuses + to_tell def was.phase
   pub noticed : length new.notices + postings_left def now.phase ≤ length s.notices + postings_left def was.phase
 
@@ -136,7 +136,7 @@ posted_after_post p e req other cells = list_any-append (same_request other) e.p
 record Posted (def : TaskDef) (k : ℕ) (now : Task) : Type 0 where
   fewer : moves_left (length def.body.items) now.phase + 1 ≤ 2 * (length def.body.items - k) + 2
   count : posted_by_phase def now.phase ≡ nth_at def k + 1
-  placed : IsPlaced def now.phase
+  placed : MayStand def now.phase
   tells : to_tell def now.phase ≤ to_tell def (phase.In k)
 
 fewer_by_one : (n k left : ℕ) → k < n → left ≤ 2 * (n - (k + 1)) + 2 → left + 1 ≤ 2 * (n - k) + 2

@@ -23,7 +23,7 @@ use Rattle.tidy_runs.specs.Tidy.{IsTidy, bindings, called}
 use Rattle.task_machine.proofs.Rows.{move-row}
 use Rattle.task_machine.proofs.Lists.{slice_get-set_same, slice_get-set_other, slice_get-map}
 use Rattle.task_machine.proofs.Items.{either_place, same_some}
-use Rattle.run_bounds.specs.Fits.{IsPlaced, FitsProgram}
+use Rattle.run_bounds.specs.Fits.{MayStand, FitsProgram}
 use Rattle.run_bounds.proofs.Rooms.{HasRoom, postings_left, entries_left, room_goes_on}
 use Rattle.run_bounds.proofs.Tells.{to_tell}
 use Rattle.run_bounds.proofs.Changes.{Changes, start_changes, return_changes, post_changes, wait_changes, bind_changes, leave_changes, release_changes}
@@ -37,7 +37,7 @@ call_changes p s t def was k (Some (op.Post how span peer tag comm status)) at h
 call_changes p s t def was k (Some (op.Await false handles status)) at here call = wait_changes p s t def was k handles status at here
 call_changes p s t def was k (Some (op.Await true handles status)) at here call = bind_changes p s t def was k handles status at here
 
-row_changes : (p : Program) (s : State) (t : ℕ) (def : TaskDef) (was : Task) (at : Phase) → was.phase ≡ at → IsPlaced def at
+row_changes : (p : Program) (s : State) (t : ℕ) (def : TaskDef) (was : Task) (at : Phase) → was.phase ≡ at → MayStand def at
     → was.named ≡ bindings 0 (called def at) → MayMoveAt p s.tasks s.exchange t def was at → Changes s t def was (move_at p s t def was at).state
 row_changes p s t def was phase.Waiting stands placed named may = start_changes p s t def was stands
 row_changes p s t def was (phase.At k) stands placed named may = call_changes p s t def was k (slice_get def.body.items k) stands refl placed

@@ -15,7 +15,7 @@ use Rattle.tidy_runs.specs.Tidy.{IsTidy}
 use Rattle.tidy_runs.proofs.Tidying.{runs_are_tidy}
 use Rattle.task_machine.proofs.Runs.{step-task, exists_of_move, state_after-push, IsDefined-push}
 use Rattle.task_machine.proofs.Fronts.{past}
-use Rattle.run_bounds.specs.Fits.{IsPlaced, RunsFit}
+use Rattle.run_bounds.specs.Fits.{MayStand, RunsFit}
 use Rattle.run_bounds.specs.Bounds.{RunsStayShort}
 use Rattle.run_bounds.proofs.Rooms.{over_opening, entries_first, told_first, postings_first, entries_left, postings_left}
 use Rattle.run_bounds.proofs.Tells.{to_tell}
@@ -69,7 +69,7 @@ opening_within p =
       fits = record {
         counted = length-replicate (length p.tasks.items) waiting_task;
         placed = λ t def task is_def here.
-            subst (λ (x : Task). IsPlaced def x.phase) (sym (in_replicate (length p.tasks.items) waiting_task t task here)) tt;
+            subst (λ (x : Task). MayStand def x.phase) (sym (in_replicate (length p.tasks.items) waiting_task t task here)) tt;
         posted = λ t n def task is_def is_task posted. absurd (cc);
       };
       entries = rw waiting (omega arith);

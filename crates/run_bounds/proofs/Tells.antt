@@ -18,7 +18,7 @@ use Rattle.task_local.specs.Local.{stop_at, stop}
 use Rattle.task_local.specs.Waits.{told, told_by, statuses_of}
 use Rattle.task_machine.specs.Laws.{is_blocking_call}
 use Rattle.task_local.specs.Standing.{IsCall}
-use Rattle.run_bounds.specs.Fits.{IsPlaced}
+use Rattle.run_bounds.specs.Fits.{MayStand}
 use Rattle.run_bounds.specs.Bounds.{tells_now, tells_late}
 
 -- at most how many statuses a task that stands there has still to tell
@@ -76,7 +76,7 @@ at_drop (y ∷ ys) zero x rest is = ap Some (cc)
 at_drop (y ∷ ys) (suc k) x rest is = at_drop ys k x rest is
 
 -- a task that stops is before a call, or has ended
-placed_at_stop : (def : TaskDef) (k : ℕ) (ops : List Op) → drop k def.body.items ≡ ops → IsPlaced def (stop_at k ops)
+placed_at_stop : (def : TaskDef) (k : ℕ) (ops : List Op) → drop k def.body.items ≡ ops → MayStand def (stop_at k ops)
 placed_at_stop def k [] here = tt
 placed_at_stop def k (op.Compute kind dst left right value step ∷ ops) here =
     placed_at_stop def (k + 1) ops (drop_next def.body.items k (op.Compute kind dst left right value step) ops here)
@@ -85,7 +85,7 @@ placed_at_stop def k (op.Post how span peer tag comm status ∷ ops) here =
 placed_at_stop def k (op.Await later handles status ∷ ops) here =
     subst IsCall (sym (at_drop def.body.items k (op.Await later handles status) ops here)) refl
 
-pub stop_is_placed : (def : TaskDef) (k : ℕ) → IsPlaced def (stop def k)
+pub stop_is_placed : (def : TaskDef) (k : ℕ) → MayStand def (stop def k)
 unfolding stop
 stop_is_placed def k = placed_at_stop def k (drop k def.body.items) refl
 

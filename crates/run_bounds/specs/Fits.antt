@@ -14,19 +14,19 @@ use Rattle.task_machine.specs.Laws.{is_blocking_call}
 use Rattle.task_machine.specs.Legal.{IsDefined, state_of}
 
 -- where a task may stand: before a call, for its local operations have run, or in a call that blocks (MPI 4.0, 2.4.2)
-abbrev pub IsPlaced : TaskDef → Phase → Type 0
-IsPlaced def phase.Waiting = ⊤
-IsPlaced def (phase.At k) = IsCall (slice_get def.body.items k)
-IsPlaced def (phase.In k) = is_blocking_call (slice_get def.body.items k) ≡ true
-IsPlaced def phase.Ended = ⊤
-IsPlaced def phase.Returned = ⊤
-IsPlaced def phase.Released = ⊤
+abbrev pub MayStand : TaskDef → Phase → Type 0
+MayStand def phase.Waiting = ⊤
+MayStand def (phase.At k) = IsCall (slice_get def.body.items k)
+MayStand def (phase.In k) = is_blocking_call (slice_get def.body.items k) ≡ true
+MayStand def phase.Ended = ⊤
+MayStand def phase.Returned = ⊤
+MayStand def phase.Released = ⊤
 
 -- the tasks are those of the program, each stands where a task may, and what is posted is what the tasks have posted (this project's)
 pub record FitsProgram (program : Program) (state : State) : Type 0 where
   pub counted : length state.tasks ≡ length program.tasks.items
   pub placed : (t : ℕ) (def : TaskDef) (task : Task) → slice_get program.tasks.items t ≡ Some def → slice_get state.tasks t ≡ Some task
-      → IsPlaced def task.phase
+      → MayStand def task.phase
   pub posted : (t n : ℕ) (def : TaskDef) (task : Task) → slice_get program.tasks.items t ≡ Some def → slice_get state.tasks t ≡ Some task
       → is_posted state.exchange (request t n) ≡ true → n < posted_by_phase def task.phase
 

@@ -28,6 +28,7 @@ deed tasks (suc t) =
 abbrev pub look_number : Program → ℕ
 look_number program = length program.tasks.items + 1
 
+-- the number that stands for a stop: behind the offers of the tasks and a look
 abbrev pub stop_number : Program → ℕ
 stop_number program = length program.tasks.items + 2
 

@@ -37,12 +37,12 @@ pub record CatchesUp (program : Program) (workers : ℕ) (old new : PassIs) : Ty
   pub seen : new.seen ≡ old.seen ++ since
 
 -- a look that is left out, where the list has as many looks as it may have
-abbrev pub Follows : Program → ℕ → PassIs → PassIs → Type 0
-Follows program workers old new = CatchesUp program workers old new × (looks program new.seen ≡ 2 ^ 63)
+abbrev pub IsLeftOut : Program → ℕ → PassIs → PassIs → Type 0
+IsLeftOut program workers old new = CatchesUp program workers old new × (looks program new.seen ≡ 2 ^ 63)
 
 -- the call is a look: it stands last in the list, or is left out where enough looks stand there
 abbrev pub Looks : Program → ℕ → PassIs → PassIs → Type 0
-Looks program workers old new = Does program workers old new (look_number program) ⊎ Follows program workers old new
+Looks program workers old new = Does program workers old new (look_number program) ⊎ IsLeftOut program workers old new
 
 -- after the call a stop stands in the list: its own, which stands last, or an earlier one
 abbrev pub Stops : Program → ℕ → PassIs → PassIs → Type 0

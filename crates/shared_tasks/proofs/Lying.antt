@@ -9,7 +9,7 @@ use Rattle.std.proofs.lemmas.Bool.{cases_eq, eq-eqb, ne_eqb, false≢true, cases
 use Rattle.rt_base.specs.declared.data.ReqNo.{ReqNo}
 use Rattle.rt_base.specs.Matching.{same_request}
 use Rattle.rt_base.proofs.SameRequest.{same_request-comm, one_request}
-use Rattle.task_machine.specs.Owed.{IsIn}
+use Rattle.task_machine.specs.Owed.{IsOneOf}
 use Rattle.task_machine.proofs.Lists.{slice_get-set_same, slice_get-set_other}
 use Rattle.tidy_runs.proofs.Bodies.{in_either, in_left, in_right}
 use Rattle.meet_hall.specs.Holders.{HolderIs, TicketIs, ticket_from}
@@ -105,7 +105,7 @@ written_in view rows new row places req lies same has is written =
 pub none_opened : (holder : HolderIs) (rows : List (List (Option TicketIs))) → HasOpened holder [] rows rows
 none_opened holder rows = record { opened = λ q has. absurd (false≢true has); others = λ q none. refl }
 
-not_both : (q : ReqNo) (reqs : List ReqNo) (req : ReqNo) → (same_request q req ≡ false) → IsIn q (reqs ++ req ∷ []) → IsIn q reqs
+not_both : (q : ReqNo) (reqs : List ReqNo) (req : ReqNo) → (same_request q req ≡ false) → IsOneOf q (reqs ++ req ∷ []) → IsOneOf q reqs
 not_both q reqs req other has = elim (in_either q reqs (req ∷ []) has) [
   | inl before ↦ before
   | inr last_ ↦ elim (or_cases (same_request q req) false last_) [
@@ -114,7 +114,7 @@ not_both q reqs req other has = elim (in_either q reqs (req ∷ []) has) [
   ]
 ]
 
-in_right_one : (q : ReqNo) (reqs : List ReqNo) (req : ReqNo) → same_request q req ≡ true → IsIn q (reqs ++ req ∷ [])
+in_right_one : (q : ReqNo) (reqs : List ReqNo) (req : ReqNo) → same_request q req ≡ true → IsOneOf q (reqs ++ req ∷ [])
 in_right_one q reqs req same = in_right q reqs (req ∷ []) (or_left (same_request q req) false same)
 
 own_opened : (holder : HolderIs) (reqs : List ReqNo) (req : ReqNo) (mid new : List (List (Option TicketIs))) (q : ReqNo) → IsSome (place_in mid req)

@@ -31,7 +31,7 @@ use Rattle.rt_base.specs.MayMove.{MayMove}
 use Rattle.rt_base.specs.WellFormed.{WellFormed, IsOpen, NamesOther}
 use Rattle.task_machine.specs.Machine.{Moved, move, step, open_ones}
 use Rattle.task_machine.specs.Legal.{IsDefined, state_of}
-use Rattle.task_machine.specs.Owed.{opened, opened_at, IsIn}
+use Rattle.task_machine.specs.Owed.{opened, opened_at, IsOneOf}
 use Rattle.task_machine.proofs.Runs.{IsDefined-push, state_after-push, step-task, exists_of_move}
 use Rattle.tidy_runs.specs.Tidy.{AreOf, IsBoundBy, IsTidyTask, IsTidy, called}
 use Rattle.tidy_runs.specs.Openings.{Opens}
@@ -77,7 +77,7 @@ place_counts t place (r ∷ reqs) own =
           omega (arith, here, none, whole, rest)
     ]
 
-place_is_in : (t place : ℕ) (reqs : List ReqNo) → AreOf t reqs → 0 < times place (places_of reqs) → IsIn (request t place) reqs
+place_is_in : (t place : ℕ) (reqs : List ReqNo) → AreOf t reqs → 0 < times place (places_of reqs) → IsOneOf (request t place) reqs
 place_is_in t place [] own some = absurd (omega (arith, some))
 place_is_in t place (r ∷ reqs) own some = elim (cases_Bool (list_any (same_request (request t place)) (r ∷ reqs))) [
   | inl has ↦ has
@@ -86,7 +86,7 @@ place_is_in t place (r ∷ reqs) own some = elim (cases_Bool (list_any (same_req
       absurd (omega (arith, some, place_counts t place (r ∷ reqs) own, zero_))
 ]
 
-pub place_of_one : (t : ℕ) (q : ReqNo) (reqs : List ReqNo) → AreOf t reqs → IsIn q reqs → 0 < times q.nth (places_of reqs)
+pub place_of_one : (t : ℕ) (q : ReqNo) (reqs : List ReqNo) → AreOf t reqs → IsOneOf q reqs → 0 < times q.nth (places_of reqs)
 place_of_one t q reqs own has =
     let mine : request t q.nth ≡ q = ap (λ (u : ℕ). request u q.nth) (sym (own_in t reqs q own has)) in
     let counted : 1 ≤ bodies.times (request t q.nth) reqs = subst (λ (r : ReqNo). 1 ≤ bodies.times r reqs) (sym mine) (some_counts q reqs has) in
@@ -122,7 +122,7 @@ named_adds t front later handles status are_open apart = record {
 }
 
 own_below : (t n k : ℕ) (def : TaskDef) (x : Op) (blocking : Bool) → slice_get def.body.items k ≡ Some x → is_posting x ≡ true
-    → IsIn (request t n) (cond blocking (request t (nth_at def k) ∷ []) []) → n < postings def.body.items
+    → IsOneOf (request t n) (cond blocking (request t (nth_at def k) ∷ []) []) → n < postings def.body.items
 own_below t n k def x true here is_post has = elim (or_cases (same_request (request t n) (request t (nth_at def k))) false has) [
   | inl same ↦
       let is : n ≡ nth_at def k = ap (λ (r : ReqNo). r.nth) (one_request (request t n) (request t (nth_at def k)) same) in
@@ -135,7 +135,7 @@ own_below t n k def x true here is_post has = elim (or_cases (same_request (requ
 own_below t n k def x false here is_post has = absurd (false≢true has)
 
 awaited_by_below : (p : Program) (t n k : ℕ) (def : TaskDef) (o : Option Op) → WellFormed p → slice_get p.tasks.items t ≡ Some def
-    → slice_get def.body.items k ≡ o → IsIn (request t n) (awaited_by t (nth_at def k) o) → n < postings def.body.items
+    → slice_get def.body.items k ≡ o → IsOneOf (request t n) (awaited_by t (nth_at def k) o) → n < postings def.body.items
 awaited_by_below p t n k def None well is_def here has = absurd (false≢true has)
 awaited_by_below p t n k def (Some (op.Compute kind dst left right value step)) well is_def here has = absurd (false≢true has)
 awaited_by_below p t n k def (Some (op.Post how span peer tag comm status)) well is_def here has =
@@ -150,7 +150,7 @@ awaited_by_below p t n k def (Some (op.Await later handles status)) well is_def 
     omega (arith, few, front, front_few def.body.items (k + 1))
 
 pub awaited_below : (p : Program) (t n k : ℕ) (def : TaskDef) → WellFormed p → slice_get p.tasks.items t ≡ Some def
-    → IsIn (request t n) (awaited t def k) → n < postings def.body.items
+    → IsOneOf (request t n) (awaited t def k) → n < postings def.body.items
 unfolding awaited
 awaited_below p t n k def well is_def has = awaited_by_below p t n k def (slice_get def.body.items k) well is_def refl has
 
@@ -180,8 +180,8 @@ new_at_pause p w cs t may well runs o k inside holder none places =
       own = own;
       within = λ place some.
           let is_in = place_is_in t place reqs own some in
-          let waited : IsIn (request t place) (awaited t o.def k) =
-          open_among p _ (request t place) (awaited t o.def k) (subst (IsIn (request t place)) waits is_in) in
+          let waited : IsOneOf (request t place) (awaited t o.def k) =
+          open_among p _ (request t place) (awaited t o.def k) (subst (IsOneOf (request t place)) waits is_in) in
           omega (arith, known, awaited_below p t place k o.def well o.is_def waited);
       once = λ place.
           let count = place_counts t place reqs own in
@@ -209,8 +209,8 @@ new_at_events p w cs t may well runs o outside holder bound places =
       own = own;
       within = λ place some.
           let is_in = place_is_in t place reqs own some in
-          let after : IsIn (request t place) o.after.bound =
-          subst (IsIn (request t place)) (sym goes) (in_right (request t place) o.before.bound reqs is_in) in
+          let after : IsOneOf (request t place) o.after.bound =
+          subst (IsOneOf (request t place)) (sym goes) (in_right (request t place) o.before.bound reqs is_in) in
           omega (arith, known, tidy.bound.posted place after, called_few o.def o.after.phase);
       once = λ place.
           let whole : times place (holder.issued ++ places_of reqs) ≡ times place (places_of o.after.bound) =
@@ -223,7 +223,7 @@ new_at_events p w cs t may well runs o outside holder bound places =
 
 -- the places of these requests are all that are wanted of what is among them
 pub awaited_among : (p : Program) (x : Exchange) (t : ℕ) (all reqs : List ReqNo) → AreOf t all
-    → ((q : ReqNo) → IsIn q reqs → is_complete p x q ≡ false → IsIn q all) → AreAwaited p x t (places_of all) reqs
+    → ((q : ReqNo) → IsOneOf q reqs → is_complete p x q ≡ false → IsOneOf q all) → AreAwaited p x t (places_of all) reqs
 awaited_among p x t all [] own within = tt
 awaited_among p x t all (r ∷ reqs) own within = (
   (λ open_.

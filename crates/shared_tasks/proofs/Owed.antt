@@ -9,7 +9,7 @@ use Rattle.rt_base.specs.State.{State, opening}
 use Rattle.rt_base.specs.Matching.{same_request}
 use Rattle.rt_base.proofs.SameRequest.{one_request, same_request-self}
 use Rattle.task_machine.specs.Machine.{move, poll}
-use Rattle.task_machine.specs.Owed.{opened, IsIn, IsOwed}
+use Rattle.task_machine.specs.Owed.{opened, IsOneOf, IsOwed}
 use Rattle.task_machine.proofs.Owing.{move_owes, poll_owes}
 use Rattle.tidy_runs.proofs.Bodies.{own_in}
 use Rattle.tidy_runs.proofs.OpenedOnce.{opened_own, owed_opened}
@@ -32,7 +32,7 @@ issued_fits p site t door holder q seat held own =
     (λ h. record { hall = h.hall; meeting_is = (door, h.meeting_is); place = refl; places = h.places }) held
 
 was_owed : (p : Program) (s : State) (t : ℕ) (q : ReqNo) → list_any (same_request q) (opened p s t) ≡ false
-    → IsOwed p s q ⊎ IsIn q (opened p s t) → IsOwed p s q
+    → IsOwed p s q ⊎ IsOneOf q (opened p s t) → IsOwed p s q
 was_owed p s t q not_in (inl before) = before
 was_owed p s t q not_in (inr is_in) = absurd (false≢true (sym not_in ∙ is_in))
 

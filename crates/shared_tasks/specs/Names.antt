@@ -4,6 +4,7 @@ use Rattle.rt_base.specs.declared.data.Program.{Program}
 use Rattle.rt_base.specs.Listing.{Listing}
 use Rattle.pass_table.specs.Passes.{TableId}
 
+-- the name that no table has
 abbrev pub no_table : TableId
 no_table = record { words = 0; slots = 0; views_name = 0; atom = 0; block = 0; offset = 0; slot_names = [] }
 

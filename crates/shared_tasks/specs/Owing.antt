@@ -6,7 +6,7 @@ use Rattle.rt_base.specs.declared.data.TaskDef.{TaskDef}
 use Rattle.rt_base.specs.declared.data.Program.{Program}
 use Rattle.rt_base.specs.Operations.{postings}
 use Rattle.rt_base.specs.State.{State}
-use Rattle.task_machine.specs.Owed.{IsIn, IsOwed}
+use Rattle.task_machine.specs.Owed.{IsOneOf, IsOwed}
 use Rattle.tidy_runs.specs.Tidy.{AreOf}
 use Rattle.pass_table.specs.Passes.{TableId}
 use Rattle.meetings.specs.Meetings.{times}
@@ -61,5 +61,5 @@ pub record AreNew (t : ℕ) (holder : HolderIs) (reqs : List ReqNo) : Type 0 whe
 
 -- these requests were opened: of each of them a ticket lies now that this holder issued for its place, and what lay of others lies
 pub record HasOpened (holder : HolderIs) (reqs : List ReqNo) (old new : List (List (Option TicketIs))) : Type 0 where
-  pub opened : (req : ReqNo) → IsIn req reqs → (seat : ℕ) × (lying_in new req ≡ Some (ticket_from holder req.nth seat))
-  pub others : (req : ReqNo) → (IsIn req reqs → ⊥) → lying_in new req ≡ lying_in old req
+  pub opened : (req : ReqNo) → IsOneOf req reqs → (seat : ℕ) × (lying_in new req ≡ Some (ticket_from holder req.nth seat))
+  pub others : (req : ReqNo) → (IsOneOf req reqs → ⊥) → lying_in new req ≡ lying_in old req

@@ -23,7 +23,8 @@ use Rattle.task_names.specs.Values.{value}
 use Rattle.task_unroll.specs.States.{State, scene}
 use Rattle.task_unroll.specs.Checks.{Check, check, passed, access_checks, no_handle, stands_twice}
 use Rattle.task_unroll.specs.Operands.{span_of, spans_of, values_of, span_or_none, communicator_of, handles_of, peer_value, tag_value, peer_of, tag_of}
-use Rattle.task_unroll.specs.Acts.{listed, sized, array_made, shown, comm_made, variable_set, taskwait_met, task_begun, access_made, op_done, kernel_call, kernel_done, call_checks, handle_free, handle_check, call_done, wait_done, none_left, task_ended}
+use Rattle.task_unroll.specs.Acts.{listed, sized, array_made, shown, comm_made, variable_set, taskwait_met, task_begun, access_made, op_done}
+use Rattle.task_unroll.specs.Acts.{kernel_call, kernel_done, call_checks, handle_free, handle_check, call_done, wait_done, none_left, task_ended}
 use Rattle.task_unroll.specs.Blocks.{act, accesses_made, unrolled}
 use Rattle.task_unroll.proofs.Results.{Holds, bind, bind_by}
 use Rattle.task_unroll.proofs.Chains.{at_step, at_operation, at_done, Tested, holds_weaker, bind_at, bind_kept, bind_stepped, bind_operated, op_done_leaves}

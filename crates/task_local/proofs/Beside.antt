@@ -1,5 +1,6 @@
 -- Parts of the copy that lie before or behind the destination of a kernel.
-use Rattle.std.proofs.Common.{◌≡◌, ℕ, ◌+◌, ◌-◌, ◌<◌, ◌≤◌, ℤ, List, ◌++◌, length, get_or, take, drop, subst, Option, Some, None, inl, inr, sym, ap, ◌∙◌, refl, arith, drop-drop, length-drop, length-take, get_or-take, All, ⊎_elim}
+use Rattle.std.proofs.Common.{◌≡◌, ℕ, ◌+◌, ◌-◌, ◌<◌, ◌≤◌, ℤ, List, ◌++◌, length, get_or, take, drop, subst, Option, Some, None, inl, inr, sym, ap}
+use Rattle.std.proofs.Common.{◌∙◌, refl, arith, drop-drop, length-drop, length-take, get_or-take, All, ⊎_elim}
 use Rattle.std.proofs.lemmas.List.{drop-append-le, take-append-le, length-take-le}
 use Rattle.std.proofs.lemmas.List.Elements.{All-more}
 use Rattle.std.proofs.Math.Seq.{drop-append-add, drop-append_seam, take-append_seam}
@@ -14,7 +15,8 @@ use Rattle.rt_base.specs.declared.data.Kernel.TheVariants as kernel
 use Rattle.task_local.specs.Regions.{spliced}
 use Rattle.task_local.specs.declared.compute.Placed.{Placed}
 use Rattle.task_local.specs.Local.{kernel_value}
-use Rattle.task_local.specs.Kept.{TakesCells, HasScratchFor, IsScratchFor, HasRoomFor, IsScratchOf, source_place, source_len, source_in, place_in, AreApart, AreSame, IsSeenBeside}
+use Rattle.task_local.specs.Kept.{TakesCells, HasScratchFor, IsScratchFor, HasRoomFor, IsScratchOf, source_place, source_len, source_in, place_in}
+use Rattle.task_local.specs.Kept.{AreApart, AreSame, IsSeenBeside}
 use Rattle.task_local.specs.Placed.{cells_at, placed_value}
 
 -- a part of the front

@@ -1,5 +1,7 @@
 -- A span of a fresh copy has the cells of the memory, over however many regions it lies.
-use Rattle.std.proofs.Common.{◌≡◌, ℕ, zero, suc, ◌+◌, ◌-◌, ◌*◌, ◌^◌, ◌<◌, ◌≤◌, not, ℤ, pos, List, [], ◌∷◌, ◌++◌, length, get_or, take, drop, All, ◌⊎◌, inl, inr, ⊎_elim, sym, ap, ◌∙◌, refl, subst, length-append, length-take-le, length-drop, get_or-take, get_or-drop, get_or-append-add, ext_get_or, ne_eqb, arith}
+use Rattle.std.proofs.Common.{◌≡◌, ℕ, zero, suc, ◌+◌, ◌-◌, ◌*◌, ◌^◌, ◌<◌, ◌≤◌, not, ℤ, pos, List, [], ◌∷◌, ◌++◌, length, get_or, take, drop, All, ◌⊎◌}
+use Rattle.std.proofs.Common.{inl, inr, ⊎_elim, sym, ap, ◌∙◌, refl, subst, length-append, length-take-le, length-drop, get_or-take, get_or-drop}
+use Rattle.std.proofs.Common.{get_or-append-add, ext_get_or, ne_eqb, arith}
 use Rattle.std.proofs.lemmas.Bool.{cases_lt, cases_eq}
 use Rattle.std.proofs.lemmas.Bool.Decides.{nat_tests}
 use Rattle.std.proofs.lemmas.List.{get_or_append_left}

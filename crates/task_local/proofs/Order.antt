@@ -1,5 +1,6 @@
 -- Regions rise by their first cells, and are the only such order of the filled accesses.
-use Rattle.std.proofs.Common.{◌≡◌, ◌≢◌, ℕ, zero, suc, ◌+◌, ◌-◌, ◌^◌, ◌<◌, ◌≤◌, Bool, true, false, not, cond, ◌==◌, List, [], ◌∷◌, length, get_or, All, AllPairs, filter, sum_by, IsPermutation, if◌then◌else◌, sym, ap, ap₂, ◌∙◌, refl, inl, inr, ⊎_elim, ◌⊎◌, subst, arith}
+use Rattle.std.proofs.Common.{◌≡◌, ◌≢◌, ℕ, zero, suc, ◌+◌, ◌-◌, ◌^◌, ◌<◌, ◌≤◌, Bool, true, false, not, cond, ◌==◌, List, [], ◌∷◌, length, get_or, All}
+use Rattle.std.proofs.Common.{AllPairs, filter, sum_by, IsPermutation, if◌then◌else◌, sym, ap, ap₂, ◌∙◌, refl, inl, inr, ⊎_elim, ◌⊎◌, subst, arith}
 use Rattle.std.proofs.lemmas.Bool.{cases_lt}
 use Rattle.std.proofs.lemmas.Bool.Decides.{nat_tests}
 use Rattle.std.proofs.lemmas.List.Elements.{All-nil, All-cons, All-head, All-tail, All-weaker}
@@ -13,7 +14,8 @@ use Rattle.rt_base.specs.Spans.{span_len, Overlaps}
 use Rattle.task_local.specs.declared.index.Region.{Region}
 use Rattle.task_local.specs.Regions.{numbered, begins_before, placed_in_order, in_order, regions}
 use Rattle.task_local.specs.Kept.{first_cell, is_nonempty, EndsBefore, IsRegion}
-use Rattle.task_local.proofs.Places.{is_filled, length-numbered, access_at, All-numbered, IsPermutation-placed_in_order, IsPermutation-in_order, All-in_order, in_order_filled}
+use Rattle.task_local.proofs.Places.{is_filled, length-numbered, access_at, All-numbered, IsPermutation-placed_in_order, IsPermutation-in_order}
+use Rattle.task_local.proofs.Places.{All-in_order, in_order_filled}
 
 -- each region ends before the later ones begin
 abbrev pub Rises : List Region → Type 0

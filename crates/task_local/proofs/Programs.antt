@@ -1,5 +1,6 @@
 -- What a program that may be run gives for a task of it.
-use Rattle.std.proofs.Common.{◌≡◌, ℕ, ◌+◌, ◌*◌, ◌<◌, ◌≤◌, true, true≢false, if◌then◌else◌, ℤ, List, [], ◌∷◌, length, get_or, drop, length-drop, All, slice_get, Option, Some, None, unwrap_or, sym, ap, ◌∙◌, refl, subst, mul_comm, arith}
+use Rattle.std.proofs.Common.{◌≡◌, ℕ, ◌+◌, ◌*◌, ◌<◌, ◌≤◌, true, true≢false, if◌then◌else◌, ℤ, List, [], ◌∷◌, length, get_or, drop, length-drop, All}
+use Rattle.std.proofs.Common.{slice_get, Option, Some, None, unwrap_or, sym, ap, ◌∙◌, refl, subst, mul_comm, arith}
 use Rattle.std.proofs.lemmas.Nat.{mul-add-lt}
 use Rattle.std.proofs.lemmas.Option.{get_or_from_slice_get, slice_get_within, same_Some}
 use Rattle.std.proofs.lemmas.List.Elements.{All-get_or}

@@ -1,5 +1,6 @@
 -- Statuses that are stored one behind another are their cells at once.
-use Rattle.std.proofs.Common.{◌≡◌, ℕ, ◌+◌, ◌*◌, ◌^◌, ◌<◌, ◌≤◌, not, ℤ, List, [], ◌∷◌, ◌++◌, length, take, drop, Some, ⊎_elim, sym, ap, ap₂, ◌∙◌, refl, length-append, length-take-le, append_assoc, drop-drop, take_at, drop_at, ne_eqb, arith}
+use Rattle.std.proofs.Common.{◌≡◌, ℕ, ◌+◌, ◌*◌, ◌^◌, ◌<◌, ◌≤◌, not, ℤ, List, [], ◌∷◌, ◌++◌, length, take, drop, Some, ⊎_elim, sym, ap, ap₂, ◌∙◌, refl}
+use Rattle.std.proofs.Common.{length-append, length-take-le, append_assoc, drop-drop, take_at, drop_at, ne_eqb, arith}
 use Rattle.std.specs.List.{flat_map}
 use Rattle.std.proofs.lemmas.Bool.{cases_eq}
 use Rattle.rt_base.specs.declared.data.Span.{Span}

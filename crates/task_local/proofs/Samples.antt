@@ -1,5 +1,6 @@
 -- The program of the tests may be run.
-use Rattle.std.proofs.Common.{◌≡◌, ◌≢◌, get_or, ℕ, zero, suc, ◌+◌, ◌*◌, ◌<◌, ◌≤◌, pos, List, [], ◌∷◌, ◌++◌, length, All, AllPairs, sum, sum_by, length-append, slice_get, unwrap_or, Some, None, sym, ap, ◌∙◌, refl, subst, ⊎_elim, arith, slice_index}
+use Rattle.std.proofs.Common.{◌≡◌, ◌≢◌, get_or, ℕ, zero, suc, ◌+◌, ◌*◌, ◌<◌, ◌≤◌, pos, List, [], ◌∷◌, ◌++◌, length, All, AllPairs, sum, sum_by}
+use Rattle.std.proofs.Common.{length-append, slice_get, unwrap_or, Some, None, sym, ap, ◌∙◌, refl, subst, ⊎_elim, arith, slice_index}
 use Rattle.std.proofs.lemmas.Bool.{cases_lt}
 use Rattle.std.proofs.lemmas.List.Elements.{All-nil, All-cons}
 use Rattle.std.proofs.lemmas.List.Sums.{count_by-le-length}
@@ -19,7 +20,8 @@ use Rattle.rt_base.specs.Layout.{array_count, array_len, starts_from}
 use Rattle.rt_base.specs.Operations.{postings}
 use Rattle.rt_base.specs.InUse.{left_after, used_after, is_in_use}
 use Rattle.rt_base.specs.Pieces.{is_bound_of, pieces_of, pieces}
-use Rattle.rt_base.specs.WellFormed.{WellFormed, IsTask, IsSpan, IsOperation, MayRead, MayWrite, IsDeclared, IsWritable, InOrder, Follows, region_cells, names_of, cells_sent, over_operations}
+use Rattle.rt_base.specs.WellFormed.{WellFormed, IsTask, IsSpan, IsOperation, MayRead, MayWrite, IsDeclared, IsWritable, InOrder, Follows}
+use Rattle.rt_base.specs.WellFormed.{region_cells, names_of, cells_sent, over_operations}
 use Rattle.task_local.specs.Standing.{no_task}
 
 -- cells of the one array

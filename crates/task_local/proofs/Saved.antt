@@ -1,5 +1,7 @@
 -- What is put back: a span that may be written has the cells of the copy, and the other cells stay.
-use Rattle.std.proofs.Common.{◌≡◌, ℕ, zero, suc, ◌+◌, ◌-◌, ◌*◌, ◌^◌, ◌<◌, ◌≤◌, Bool, true, false, not, ◌==◌, ℤ, pos, List, [], ◌∷◌, ◌++◌, length, get_or, take, drop, All, Any, sum_by, slice_get, Some, if◌then◌else◌, ◌⊎◌, inl, inr, ⊎_elim, sym, ap, ◌∙◌, refl, subst, length-take-le, length-drop, get_or-take, get_or-drop, get_or-append-add, ext_get_or, ne_eqb, eqb-true, mul_comm, arith}
+use Rattle.std.proofs.Common.{◌≡◌, ℕ, zero, suc, ◌+◌, ◌-◌, ◌*◌, ◌^◌, ◌<◌, ◌≤◌, Bool, true, false, not, ◌==◌, ℤ, pos, List, [], ◌∷◌, ◌++◌, length}
+use Rattle.std.proofs.Common.{get_or, take, drop, All, Any, sum_by, slice_get, Some, if◌then◌else◌, ◌⊎◌, inl, inr, ⊎_elim, sym, ap, ◌∙◌, refl, subst}
+use Rattle.std.proofs.Common.{length-take-le, length-drop, get_or-take, get_or-drop, get_or-append-add, ext_get_or, ne_eqb, eqb-true, mul_comm, arith}
 use Rattle.std.proofs.lemmas.Bool.{cases_lt, cases_eq}
 use Rattle.std.proofs.lemmas.Nat.{mul-add-lt}
 use Rattle.std.proofs.lemmas.List.{get_or_append_left}
@@ -82,13 +84,13 @@ sums_rise (suc m) (suc n) (len ∷ lens) le =
     omega (arith, sum_by-cons (λ (x : ℕ). x) len (take m lens), sum_by-cons (λ (x : ℕ). x) len (take n lens))
 
 -- the region has cells, in its array and in the memory
-record IsPlaced (p : Program) (rank : ℕ) (region : Region) : Type 0 where
+record IsPlacedRegion (p : Program) (rank : ℕ) (region : Region) : Type 0 where
   filled : IsRegion region
   in_array : region.access.span.to ≤ array_len p rank region.access.span.array
   there : array_place p rank region.access.span.array < length p.lens.items
   lies : RegionLies p rank region
 
-ends_before_start : (p : Program) (rank : ℕ) (x y : Region) → IsPlaced p rank x → IsPlaced p rank y → EndsBefore x y
+ends_before_start : (p : Program) (rank : ℕ) (x y : Region) → IsPlacedRegion p rank x → IsPlacedRegion p rank y → EndsBefore x y
     → start p rank x + span_len x.access.span ≤ start p rank y
 ends_before_start p rank x y is_x is_y ends =
     let some = is_x.filled.0 in
@@ -107,15 +109,15 @@ ends_before_start p rank x y is_x is_y ends =
     subst (λ a. start p rank x + span_len x.access.span ≤ address p rank a y.access.span.from) (sym same) (omega arith))
     (cases_lt x.access.span.array y.access.span.array)
 
-ascends : (p : Program) (rank : ℕ) (ordered : List Region) → Rises ordered → All (IsPlaced p rank) ordered → Ascends p rank (memory_len p) ordered
+ascends : (p : Program) (rank : ℕ) (ordered : List Region) → Rises ordered → All (IsPlacedRegion p rank) ordered → Ascends p rank (memory_len p) ordered
 ascends p rank [] rises placed = tt
 ascends p rank (x ∷ xs) rises placed =
-    let here : IsPlaced p rank x = All-head (IsPlaced p rank) x xs placed in
-    let rest = All-tail (IsPlaced p rank) x xs placed in
+    let here : IsPlacedRegion p rank x = All-head (IsPlacedRegion p rank) x xs placed in
+    let rest = All-tail (IsPlacedRegion p rank) x xs placed in
     (here.lies.inside, λ k d within. ends_before_start p rank x (get_or xs k d) here (rest k d within) (rises.1 k d within), ascends p rank xs rises.2 rest)
 
 placed_is : (p : Program) (rank : ℕ) (region : Region) → WellFormed p → rank < p.ranks → IsSpan p rank region.access.span → is_nonempty region ≡ true
-    → IsPlaced p rank region
+    → IsPlacedRegion p rank region
 placed_is p rank region well exists span filled =
     let fills : region.access.span.from < region.access.span.to = filled_is region.access filled in
     let lies = lies_in p rank region.access well exists span filled in

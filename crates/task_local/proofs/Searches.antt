@@ -1,5 +1,6 @@
 -- The place of a cell by the last region that has begun there.
-use Rattle.std.proofs.Common.{◌≡◌, ℕ, zero, suc, ◌+◌, ◌*◌, ◌^◌, ◌<◌, ◌≤◌, List, length, get_or, take, drop, All, AllPairs, sum_by, slice_index, sym, ap, ◌∙◌, refl, subst, get_or-drop, length-drop, arith}
+use Rattle.std.proofs.Common.{◌≡◌, ℕ, zero, suc, ◌+◌, ◌*◌, ◌^◌, ◌<◌, ◌≤◌, List, length, get_or, take, drop, All, AllPairs, sum_by, slice_index, sym}
+use Rattle.std.proofs.Common.{ap, ◌∙◌, refl, subst, get_or-drop, length-drop, arith}
 use Rattle.std.proofs.lemmas.Bool.{cases_order}
 use Rattle.std.proofs.lemmas.Bool.Decides.{nat_tests}
 use Rattle.std.proofs.lemmas.List.Sums.{sum_by_more, sum_by-drop_more, sum_by-take-drop, sum_by-le, sum_by-le-sum_by}

@@ -1,5 +1,6 @@
 -- What a record keeps in its fields. No clause of a public call cites this module.
-use Rattle.std.specs.Prelude.{◌≡◌, ℕ, ◌+◌, ◌*◌, ◌^◌, ◌<◌, ◌≤◌, Bool, not, ◌==◌, List, [], ◌++◌, length, take, drop, All, AllPairs, slice_get, slice_index, slice_index_or, sum_by, ℤ, pos, ◌≤ℤ◌, Option, Some, None, false, if◌then◌else◌, IfSome, ⊤, ◌⊎◌}
+use Rattle.std.specs.Prelude.{◌≡◌, ℕ, ◌+◌, ◌*◌, ◌^◌, ◌<◌, ◌≤◌, Bool, not, ◌==◌, List, [], ◌++◌, length, take, drop, All, AllPairs, slice_get}
+use Rattle.std.specs.Prelude.{slice_index, slice_index_or, sum_by, ℤ, pos, ◌≤ℤ◌, Option, Some, None, false, if◌then◌else◌, IfSome, ⊤, ◌⊎◌}
 use Rattle.rt_base.specs.declared.data.Span.{Span}
 use Rattle.rt_base.specs.declared.data.Access.{Access}
 use Rattle.rt_base.specs.declared.data.Kernel.{Kernel}
@@ -29,6 +30,7 @@ IsPhaseOf task phase.Released = ⊤
 abbrev pub first_cell : Region → ℕ
 first_cell region = region.access.span.array * 2 ^ 32 + region.access.span.from
 
+-- where a region ends, as a number above all cells of the arrays before
 abbrev pub end_cell : Region → ℕ
 end_cell region = region.access.span.array * 2 ^ 32 + region.access.span.to
 
@@ -62,6 +64,7 @@ TakesCells kernel.Greatest count left right value = (count ≡ 1) × (0 < left)
 abbrev pub region_len : Region → ℕ
 region_len region = span_len region.access.span
 
+-- how many cells of a region come before a cell
 abbrev pub region_before : ℕ → ℕ → Region → ℕ
 region_before array cell region = cells_before array cell region.access
 
@@ -82,6 +85,7 @@ abbrev pub SourceFits : List Region → ℕ → Option Span → Type 0
 SourceFits ordered count None = ⊤
 SourceFits ordered count (Some span) = FitsIn ordered count span
 
+-- how many cells a source has; none where there is no source
 abbrev pub source_len : Option Span → ℕ
 source_len None = 0
 source_len (Some span) = span_len span

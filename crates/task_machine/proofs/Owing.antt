@@ -27,7 +27,7 @@ use Rattle.task_local.specs.Local.{stop_at, stop}
 use Rattle.task_local.specs.Packed.{packed}
 use Rattle.task_machine.specs.Machine.{Moved, move, move_of, move_at, call_move, post_move, await_move, poll, polled, awaited_at, listened, phase_at, bound_at}
 use Rattle.task_machine.specs.Machine.{is_expected, noticed, open_count, open_ones}
-use Rattle.task_machine.specs.Owed.{opened, opened_of, opened_at, opened_by, opened_by_posting, IsIn, IsOwed}
+use Rattle.task_machine.specs.Owed.{opened, opened_of, opened_at, opened_by, opened_by_posting, IsOneOf, IsOwed}
 use Rattle.task_machine.specs.Laws.{is_call_that_opens}
 use Rattle.task_machine.proofs.Calls.{Stays}
 use Rattle.task_machine.proofs.Lists.{slice_get-set_same, slice_get-set_other}
@@ -35,21 +35,21 @@ use Rattle.task_machine.proofs.Items.{either_place}
 use Rattle.std.proofs.lemmas.Option.{slice_get_within}
 
 -- a request that is in one of two lists
-in_either : (q : ReqNo) (xs ys : List ReqNo) → IsIn q (xs ++ ys) → IsIn q xs ⊎ IsIn q ys
+in_either : (q : ReqNo) (xs ys : List ReqNo) → IsOneOf q (xs ++ ys) → IsOneOf q xs ⊎ IsOneOf q ys
 in_either q xs ys has = or_cases (list_any (same_request q) xs) (list_any (same_request q) ys) (sym (list_any-append (same_request q) xs ys) ∙ has)
 
-in_first : (q : ReqNo) (xs ys : List ReqNo) → ys ≡ [] → IsIn q (xs ++ ys) → IsIn q xs
+in_first : (q : ReqNo) (xs ys : List ReqNo) → ys ≡ [] → IsOneOf q (xs ++ ys) → IsOneOf q xs
 in_first q xs ys none has = elim (in_either q xs ys has) [
   | inl first ↦ first
   | inr second ↦ absurd (false≢true (ap (list_any (same_request q)) (sym none) ∙ second))
 ]
 
 -- an incomplete request of a list is among its incomplete ones
-kept : (q r : ReqNo) (left : List ReqNo) (b : Bool) → IsIn q left → IsIn q (cond b left (r ∷ left))
+kept : (q r : ReqNo) (left : List ReqNo) (b : Bool) → IsOneOf q left → IsOneOf q (cond b left (r ∷ left))
 kept q r left true has = has
 kept q r left false has = or_right (same_request q r) (list_any (same_request q) left) has
 
-open_has : (p : Program) (x : Exchange) (reqs : List ReqNo) (q : ReqNo) → is_complete p x q ≡ false → IsIn q reqs → IsIn q (open_ones p x reqs)
+open_has : (p : Program) (x : Exchange) (reqs : List ReqNo) (q : ReqNo) → is_complete p x q ≡ false → IsOneOf q reqs → IsOneOf q (open_ones p x reqs)
 open_has p x [] q undone has = has
 open_has p x (r ∷ reqs) q undone has = elim (or_cases (same_request q r) (list_any (same_request q) reqs) has) [
   | inl same ↦
@@ -97,17 +97,18 @@ record Turns (p : Program) (s : State) (t : ℕ) (def : TaskDef) (was : Task) (a
   now : Task
   tasks : after.tasks ≡ slice_set s.tasks t now
   stays : Stays p s.exchange after.exchange
-  told : (q : ReqNo) → is_complete p after.exchange q ≡ false → IsIn q (now.bound ++ awaited_at t (Some def) (Some now.phase)) → IsIn q was.bound ⊎ IsIn q new
-  noted : (q : ReqNo) → IsIn q after.notices → IsOwed p s q
+  told : (q : ReqNo) → is_complete p after.exchange q ≡ false → IsOneOf q (now.bound ++ awaited_at t (Some def) (Some now.phase))
+      → IsOneOf q was.bound ⊎ IsOneOf q new
+  noted : (q : ReqNo) → IsOneOf q after.notices → IsOwed p s q
 
 -- nothing is owed after it but what was owed or is new
 abbrev Owes : Program → State → State → List ReqNo → Type 0
-Owes p s after new = (q : ReqNo) → IsOwed p after q → IsOwed p s q ⊎ IsIn q new
+Owes p s after new = (q : ReqNo) → IsOwed p after q → IsOwed p s q ⊎ IsOneOf q new
 
 own_owed : (p : Program) (s : State) (t : ℕ) (def : TaskDef) (was : Task) (after : State) (new : List ReqNo) (q : ReqNo)
     → slice_get p.tasks.items t ≡ Some def
     → slice_get s.tasks t ≡ Some was → Turns p s t def was after new → q.task.0 ≡ t → is_complete p s.exchange q ≡ false
-    → is_complete p after.exchange q ≡ false → is_expected p after.tasks q ≡ true → IsOwed p s q ⊎ IsIn q new
+    → is_complete p after.exchange q ≡ false → is_expected p after.tasks q ≡ true → IsOwed p s q ⊎ IsOneOf q new
 own_owed p s t def was after new q is_def is_task turns same undone still_open expected =
     let set = slice_get-set_same s.tasks t turns.now (slice_get_within s.tasks t was is_task) in
     let here = expected_here p after.tasks t def turns.now q is_def (ap (λ (ts : List Task). slice_get ts t) turns.tasks ∙ set) same in
@@ -141,13 +142,13 @@ turns_silent p s t def was now after new tasks exchange notices bound silent = r
   now = now;
   tasks = tasks;
   stays = λ q complete. ap (λ (x : Exchange). is_complete p x q) exchange ∙ complete;
-  told = λ q undone has. inl (subst (IsIn q) bound (in_first q now.bound _ silent has));
-  noted = λ q has. inr (subst (IsIn q) notices has);
+  told = λ q undone has. inl (subst (IsOneOf q) bound (in_first q now.bound _ silent has));
+  noted = λ q has. inr (subst (IsOneOf q) notices has);
 }
 
 -- a notice that a posting adds was owed: its request was incomplete, and a task was to be told of it
 noted_by : (p : Program) (s : State) (r q : ReqNo) (complete expected : Bool) → is_complete p s.exchange r ≡ complete → is_expected p s.tasks r ≡ expected
-    → IsIn q (cond (not complete && expected) (r ∷ []) []) → IsOwed p s q
+    → IsOneOf q (cond (not complete && expected) (r ∷ []) []) → IsOwed p s q
 noted_by p s r q true expected was asked has = absurd (false≢true has)
 noted_by p s r q false false was asked has = absurd (false≢true has)
 noted_by p s r q false true was asked has = elim (or_cases (same_request q r) false has) [
@@ -155,19 +156,19 @@ noted_by p s r q false true was asked has = elim (or_cases (same_request q r) fa
   | inr none ↦ absurd (false≢true none)
 ]
 
-noted_of : (p : Program) (s : State) (o : Option ReqNo) (q : ReqNo) → IsIn q (noticed p s.tasks s.exchange o) → IsOwed p s q
+noted_of : (p : Program) (s : State) (o : Option ReqNo) (q : ReqNo) → IsOneOf q (noticed p s.tasks s.exchange o) → IsOwed p s q
 noted_of p s None q has = absurd (false≢true has)
 noted_of p s (Some r) q has = noted_by p s r q (is_complete p s.exchange r) (is_expected p s.tasks r) refl refl has
 
-noted_after : (p : Program) (s : State) (o : Option ReqNo) (q : ReqNo) → IsIn q (s.notices ++ noticed p s.tasks s.exchange o) → IsOwed p s q
+noted_after : (p : Program) (s : State) (o : Option ReqNo) (q : ReqNo) → IsOneOf q (s.notices ++ noticed p s.tasks s.exchange o) → IsOwed p s q
 noted_after p s o q has = elim (in_either q s.notices (noticed p s.tasks s.exchange o) has) [ inl stood ↦ inr stood | inr added ↦ noted_of p s o q added ]
 
 -- what a task awaits in an operation is what is opened of it
 awaits : (p : Program) (x : Exchange) (t k : ℕ) (def : TaskDef) (reqs : List ReqNo) (q : ReqNo) (bound : List ReqNo) → awaited t def k ≡ reqs
-    → is_complete p x q ≡ false → IsIn q (bound ++ awaited_at t (Some def) (Some (phase.In k))) → IsIn q bound ⊎ IsIn q (open_ones p x reqs)
+    → is_complete p x q ≡ false → IsOneOf q (bound ++ awaited_at t (Some def) (Some (phase.In k))) → IsOneOf q bound ⊎ IsOneOf q (open_ones p x reqs)
 awaits p x t k def reqs q bound is undone has = elim (in_either q bound (awaited t def k) has) [
   | inl before ↦ inl before
-  | inr inside ↦ inr (open_has p x reqs q undone (subst (IsIn q) is inside))
+  | inr inside ↦ inr (open_has p x reqs q undone (subst (IsOneOf q) is inside))
 ]
 
 awaited_is : (t k : ℕ) (def : TaskDef) (o : Option Op) → slice_get def.body.items k ≡ o → awaited t def k ≡ awaited_by t (nth_at def k) o
@@ -247,7 +248,7 @@ of_owes p s t None was is_def is_task = λ q owed. inl owed
 of_owes p s t (Some def) None is_def is_task = λ q owed. inl owed
 of_owes p s t (Some def) (Some was) is_def is_task = at_owes p s t def was was.phase is_def is_task
 
-pub move_owes : (p : Program) (s : State) (t : ℕ) (q : ReqNo) → IsOwed p (move p s t).state q → IsOwed p s q ⊎ IsIn q (opened p s t)
+pub move_owes : (p : Program) (s : State) (t : ℕ) (q : ReqNo) → IsOwed p (move p s t).state q → IsOwed p s q ⊎ IsOneOf q (opened p s t)
 unfolding move opened
 move_owes p s t q owed = of_owes p s t (slice_get p.tasks.items t) (slice_get s.tasks t) refl refl q owed
 

@@ -1,5 +1,6 @@
 -- What follows for every legal history, whoever makes it.
-use Rattle.std.specs.Prelude.{◌≡◌, ℕ, ◌<◌, ◌≤◌, ◌↔◌, nat_eq, Bool, true, false, ◌&&◌, not, ◌⊎◌, List, [], ◌∷◌, slice_get, count_by, Option, Some, None, take, ◌++◌, length}
+use Rattle.std.specs.Prelude.{◌≡◌, ℕ, ◌<◌, ◌≤◌, ◌↔◌, nat_eq, Bool, true, false, ◌&&◌, not, ◌⊎◌, List, [], ◌∷◌, slice_get, count_by, Option, Some}
+use Rattle.std.specs.Prelude.{None, take, ◌++◌, length}
 use Rattle.rt_base.specs.declared.data.ReqNo.{ReqNo}
 use Rattle.rt_base.specs.declared.data.Phase.TheVariants as phase
 use Rattle.rt_base.specs.declared.data.Op.{Op}
@@ -14,7 +15,7 @@ use Rattle.rt_base.specs.Precedes.{LetGo, GoneMore, MayStart}
 use Rattle.rt_base.specs.State.{State, Task, opening, let_go}
 use Rattle.task_machine.specs.Machine.{move, poll, step, MayStep}
 use Rattle.task_machine.specs.Legal.{IsDefined, entries_after, caller, callers, state_of, final, IsLegal, IsQuiet}
-use Rattle.task_machine.specs.Owed.{opened, last_opened, IsIn, IsOwed}
+use Rattle.task_machine.specs.Owed.{opened, last_opened, IsOneOf, IsOwed}
 
 -- the operation is a call that blocks: a blocking send or receive, or a wait (MPI 4.0, 2.4.2, 3.4 and 3.7.3)
 abbrev pub is_blocking_call : Option Op → Bool
@@ -93,7 +94,7 @@ StepsLetGo =
 abbrev pub MovesOweWhatTheyOpened : Type 0
 MovesOweWhatTheyOpened =
     (program : Program) (state : State) (t : ℕ) (req : ReqNo)
-    → IsOwed program (move program state t).state req → IsOwed program state req ⊎ IsIn req (opened program state t)
+    → IsOwed program (move program state t).state req → IsOwed program state req ⊎ IsOneOf req (opened program state t)
 
 -- a history that goes on by the move of a task opened last what that move opens, and one that goes on by a poll what it opened before (this project's)
 abbrev pub LastMoveOpens : Type 0
@@ -101,6 +102,7 @@ LastMoveOpens =
     (program : Program) (entries : List Entry) (t : ℕ) (more : Entry) → t < length program.tasks.items → caller (length program.tasks.items) more ≡ t
     → last_opened program (entries ++ more ∷ []) ≡ opened program (final program entries) t
 
+-- a poll leaves what the last move opened (this project's)
 abbrev pub PollsOpenNothing : Type 0
 PollsOpenNothing =
     (program : Program) (entries : List Entry) (poller : ℕ) (req : ReqNo)

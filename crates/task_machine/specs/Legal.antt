@@ -36,6 +36,7 @@ caller tasks (entry.Return task) = task.0
 caller tasks (entry.Release task from count) = task.0
 caller tasks (entry.Poll poller req) = tasks + poller
 
+-- who called, entry by entry
 abbrev pub callers : Program → List Entry → List ℕ
 callers program entries = map (caller (length program.tasks.items)) entries
 

@@ -1,5 +1,6 @@
 -- The machine that has a thread for each task: its moves, and what each of them adds to the history.
-use Rattle.std.specs.Prelude.{ℕ, ◌+◌, ◌-◌, ◌<◌, ◌≤◌, nat_lt, Bool, true, false, ◌&&◌, not, ◌⊎◌, List, [], ◌∷◌, ◌++◌, length, slice_get, slice_set, count_by, ℤ, Option, Some, None, option_map, if◌then◌else◌}
+use Rattle.std.specs.Prelude.{ℕ, ◌+◌, ◌-◌, ◌<◌, ◌≤◌, nat_lt, Bool, true, false, ◌&&◌, not, ◌⊎◌, List, [], ◌∷◌, ◌++◌, length, slice_get, slice_set}
+use Rattle.std.specs.Prelude.{count_by, ℤ, Option, Some, None, option_map, if◌then◌else◌}
 use Rattle.std.specs.List.{list_any}
 use Rattle.rt_base.specs.declared.data.ReqNo.{ReqNo}
 use Rattle.rt_base.specs.declared.data.Phase.{Phase}
@@ -41,6 +42,7 @@ awaited_at t (Some def) (Some phase.Ended) = []
 awaited_at t (Some def) (Some phase.Returned) = []
 awaited_at t (Some def) (Some phase.Released) = []
 
+-- no requests where there is no list
 abbrev pub or_none : Option (List ReqNo) → List ReqNo
 or_none None = []
 or_none (Some reqs) = reqs
@@ -49,9 +51,11 @@ or_none (Some reqs) = reqs
 abbrev pub listened : Program → ℕ → Option Phase → Option (List ReqNo) → List ReqNo
 listened program t at bound = or_none bound ++ awaited_at t (slice_get program.tasks.items t) at
 
+-- the phase of a task
 abbrev pub phase_at : List Task → ℕ → Option Phase
 phase_at tasks t = option_map (λ (task : Task). task.phase) (slice_get tasks t)
 
+-- the requests that are bound to a task
 abbrev pub bound_at : List Task → ℕ → Option (List ReqNo)
 bound_at tasks t = option_map (λ (task : Task). task.bound) (slice_get tasks t)
 
@@ -125,6 +129,7 @@ bind_move program state t def task k reqs = record {
   entry = entry.Call (task_no t) k (open_count program state.exchange reqs);
 }
 
+-- a task at a wait: it waits in it, or binds its requests to the task (MPI 4.0, 3.7.3)
 abbrev pub await_move : Program → State → ℕ → TaskDef → Task → ℕ → List Handle → Bool → Moved
 await_move program state t def task k handles false = wait_move program state t task k (named_requests t handles)
 await_move program state t def task k handles true = bind_move program state t def task k (named_requests t handles)
@@ -181,6 +186,7 @@ move_at program state t def task phase.Ended = return_move state t task
 move_at program state t def task phase.Returned = release_move program state t def task
 move_at program state t def task phase.Released = no_move state t
 
+-- the move of a task of the program; there is none of another
 abbrev pub move_of : Program → State → ℕ → Option TaskDef → Option Task → Moved
 move_of program state t None task = no_move state t
 move_of program state t (Some def) None = no_move state t
@@ -190,6 +196,7 @@ move_of program state t (Some def) (Some task) = move_at program state t def tas
 unfoldable pub move : Program → State → ℕ → Moved
 move program state t = move_of program state t (slice_get program.tasks.items t) (slice_get state.tasks t)
 
+-- the state after a poller took the oldest notice, with its entry
 abbrev pub polled : State → ℕ → List ReqNo → Moved
 polled state poller [] = no_move state poller
 polled state poller (req ∷ notices) = record { state = record state { notices = notices }; entry = entry.Poll poller req }

@@ -39,6 +39,7 @@ opened_at program state t def task phase.Ended = []
 opened_at program state t def task phase.Returned = []
 opened_at program state t def task phase.Released = []
 
+-- what the move of a task opens; another opens nothing
 abbrev pub opened_of : Program → State → ℕ → Option TaskDef → Option Task → List ReqNo
 opened_of program state t None task = []
 opened_of program state t (Some def) None = []
@@ -63,9 +64,9 @@ unfoldable pub last_opened : Program → List Entry → List ReqNo
 last_opened program entries = opened_after program (opening program) [] (callers program entries)
 
 -- the request is one of these
-abbrev pub IsIn : ReqNo → List ReqNo → Type 0
-IsIn req reqs = list_any (same_request req) reqs ≡ true
+abbrev pub IsOneOf : ReqNo → List ReqNo → Type 0
+IsOneOf req reqs = list_any (same_request req) reqs ≡ true
 
 -- a task is still to be told of the request: it is incomplete and expected, or its notice stands (TAMPI, completion by polling)
 abbrev pub IsOwed : Program → State → ReqNo → Type 0
-IsOwed program state req = ((is_complete program state.exchange req ≡ false) × (is_expected program state.tasks req ≡ true)) ⊎ IsIn req state.notices
+IsOwed program state req = ((is_complete program state.exchange req ≡ false) × (is_expected program state.tasks req ≡ true)) ⊎ IsOneOf req state.notices

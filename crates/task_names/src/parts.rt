@@ -63,7 +63,9 @@ fn step<'a>(
     values: &mut Pile<i64>,
 ) -> Result<(), LineRefusal>
     requires { Fits (next ∷ todo.old) (length values.old) }
-    ensures rest { GivesRest result (after (record { names = scope.now.names; rank = rank; size = size }) (next.entry ∷ todo.old) values.old) (after (record { names = scope.now.names; rank = rank; size = size }) todo.new values.new) }
+    ensures rest { GivesRest result
+        (after (record { names = scope.now.names; rank = rank; size = size }) (next.entry ∷ todo.old) values.old)
+        (after (record { names = scope.now.names; rank = rank; size = size }) todo.new values.new) }
     ensures fits { OnOk result (Fits todo.new (length values.new)) }
     ensures less { OnOk result (left_of todo.new + 1 ≤ left_of (next.entry ∷ todo.old)) }
 {

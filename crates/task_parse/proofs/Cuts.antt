@@ -1,5 +1,6 @@
 -- Cutting a line into tokens, one token at a time.
-use Rattle.std.proofs.Common.{◌≡◌, ℕ, zero, suc, ◌+◌, ◌-◌, ◌<◌, ◌≤◌, ◌==◌, ◌||◌, Bool, true, false, cond, List, [], ◌∷◌, ◌++◌, length, drop, Option, Some, None, Result, Ok, Err, refl, sym, ap, ◌∙◌, arith, append-nil, length-drop}
+use Rattle.std.proofs.Common.{◌≡◌, ℕ, zero, suc, ◌+◌, ◌-◌, ◌<◌, ◌≤◌, ◌==◌, ◌||◌, Bool, true, false, cond, List, [], ◌∷◌, ◌++◌, length, drop, Option}
+use Rattle.std.proofs.Common.{Some, None, Result, Ok, Err, refl, sym, ap, ◌∙◌, arith, append-nil, length-drop}
 use Rattle.std.proofs.lemmas.Bool.Decides.{nat_tests}
 use Rattle.std.proofs.lemmas.List.Folds.{length-prefix_len}
 use Rattle.std.proofs.lemmas.List.Sums.{prefix_len-le-length}
@@ -13,7 +14,8 @@ use Rattle.task_tree.specs.declared.refusal.LineRefusal.TheVariants as variant
 use Rattle.task_tree.specs.Reading.{◌>>=◌, Fails}
 use Rattle.task_parse.specs.Signs.{sign_of_two}
 use Rattle.task_parse.proofs.Fronts.{chosen, one_dropped, front_none, front_more}
-use Rattle.task_parse.specs.Tokens.{is_blank, begins_name, is_in_name, after_blanks, is_over, with_len, longest_sign, number_at, word_at, sign_at, first_token, with_front, tokens_behind, tokens_of}
+use Rattle.task_parse.specs.Tokens.{is_blank, begins_name, is_in_name, after_blanks, is_over, with_len, longest_sign, number_at, word_at, sign_at}
+use Rattle.task_parse.specs.Tokens.{first_token, with_front, tokens_behind, tokens_of}
 
 -- skipping is dropping
 skipped : (skip : ℕ) (line : List ℕ) → tokens_behind skip line ≡ tokens_behind 0 (drop skip line)

@@ -20,7 +20,8 @@ use Rattle.task_tree.specs.Reading.{◌>>=◌}
 use Rattle.task_parse.specs.Statements.{IsStatement, IsStatement as form, access_key, call_key, wait_key, waitall_key, kernel_key, listed}
 use Rattle.task_parse.specs.ReadingsOfParts.{Left}
 use Rattle.task_parse.specs.ReadingsOfOperands.{status_at}
-use Rattle.task_parse.specs.ReadingsOfLines.{whole, array_line, show_line, comm_line, let_line, for_line, if_line, touch_line, kernel_line, posting_line, wait_line, waitall_line}
+use Rattle.task_parse.specs.ReadingsOfLines.{whole, array_line, show_line, comm_line, let_line, for_line, if_line, touch_line, kernel_line}
+use Rattle.task_parse.specs.ReadingsOfLines.{posting_line, wait_line, waitall_line}
 use Rattle.task_parse.specs.Readings.{operation, line, statement}
 use Rattle.task_parse.proofs.PartLemmas.{Gets, then_name, then_comma, then_dots, then_set, then_value, then_span}
 use Rattle.task_parse.proofs.OperandLemmas.{then_peer, then_tag, then_handle, then_on, then_status, then_own_status}

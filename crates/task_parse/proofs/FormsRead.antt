@@ -1,5 +1,6 @@
 -- Each form of statement, as it is spelled, is read.
-use Rattle.std.proofs.Common.{◌≡◌, ℕ, ◌+◌, ◌≤◌, min, max, nat_lt, Bool, true, false, List, [], ◌∷◌, ◌++◌, length, Option, None, Result, Ok, Err, refl, sym, ap, ◌∙◌, arith, append-nil}
+use Rattle.std.proofs.Common.{◌≡◌, ℕ, ◌+◌, ◌≤◌, min, max, nat_lt, Bool, true, false, List, [], ◌∷◌, ◌++◌, length, Option, None, Result, Ok, Err, refl}
+use Rattle.std.proofs.Common.{sym, ap, ◌∙◌, arith, append-nil}
 use Rattle.std.proofs.lemmas.Bool.Decides.{nat_tests}
 use Rattle.rt_base.specs.declared.data.FaultKind.{FaultKind}
 use Rattle.rt_base.specs.declared.data.Mode.{Mode}
@@ -20,10 +21,12 @@ use Rattle.task_tree.specs.declared.tree.What.TheVariants as what
 use Rattle.task_tree.specs.Term.{Term}
 use Rattle.task_tree.specs.Grammar.{Is}
 use Rattle.task_tree.specs.Reading.{◌>>=◌}
-use Rattle.task_parse.specs.Statements.{IsSpan, IsPeer, IsTag, IsOn, IsStatus, IsStatus as is_status, IsHandle, HasStatus, AreNames, AreSpans, AreValues, IsStatement, IsStatement as form, access_key, call_key, wait_key, waitall_key, kernel_key, listed}
+use Rattle.task_parse.specs.Statements.{IsSpan, IsPeer, IsTag, IsOn, IsStatus, IsStatus as is_status, IsHandle, HasStatus, AreNames, AreSpans}
+use Rattle.task_parse.specs.Statements.{AreValues, IsStatement, IsStatement as form, access_key, call_key, wait_key, waitall_key, kernel_key, listed}
 use Rattle.task_parse.specs.ReadingsOfParts.{Left, name_at, comma_at, dots_at, set_at, span_at}
 use Rattle.task_parse.specs.ReadingsOfOperands.{comma_name, next_span, next_value, more_of}
-use Rattle.task_parse.specs.ReadingsOfLines.{whole, array_line, show_line, comm_line, let_line, for_line, if_line, touch_line, kernel_line, posting_line, wait_line, waitall_line}
+use Rattle.task_parse.specs.ReadingsOfLines.{whole, array_line, show_line, comm_line, let_line, for_line, if_line, touch_line, kernel_line}
+use Rattle.task_parse.specs.ReadingsOfLines.{posting_line, wait_line, waitall_line}
 use Rattle.task_parse.specs.Readings.{operation, line, statement}
 use Rattle.task_parse.proofs.PartLemmas.{grown, grown_twice, value_read, value_last, span_read, span_last}
 use Rattle.task_parse.proofs.OperandLemmas.{peer_read, tag_read, handle_read, status_last, own_status_last, on_read, tail_ends}

@@ -1,5 +1,6 @@
 -- Lists of names, spans and values: what is spelled is read, and what is read is spelled.
-use Rattle.std.proofs.Common.{◌≡◌, ℕ, zero, suc, ◌+◌, max, true, List, [], ◌∷◌, ◌++◌, length, None, Result, Ok, refl, sym, ap, ◌∙◌, arith, append-nil, append_assoc}
+use Rattle.std.proofs.Common.{◌≡◌, ℕ, zero, suc, ◌+◌, max, true, List, [], ◌∷◌, ◌++◌, length, None, Result, Ok, refl, sym, ap, ◌∙◌, arith, append-nil}
+use Rattle.std.proofs.Common.{append_assoc}
 use Rattle.rt_base.specs.declared.data.FaultKind.{FaultKind}
 use Rattle.task_tree.specs.declared.sign.Sign.TheVariants as sign
 use Rattle.task_tree.specs.declared.token.Token.{Token}
@@ -11,7 +12,8 @@ use Rattle.task_parse.specs.Statements.{AreNames, AreNames as names, AreSpans, A
 use Rattle.task_parse.specs.ReadingsOfParts.{Left, name_at, comma_at, value_at, span_at}
 use Rattle.task_parse.specs.ReadingsOfOperands.{comma_name, names_behind, names_at, next_span, next_value, more_of}
 use Rattle.task_parse.proofs.ListSteps.{no_more_names}
-use Rattle.task_parse.proofs.PartLemmas.{grown, grown_none, grown_twice, value_read, span_read, Gets, then, weaker, regrouped, Stands, then_name, then_comma, then_value, then_span}
+use Rattle.task_parse.proofs.PartLemmas.{grown, grown_none, grown_twice, value_read, span_read, Gets, then, weaker, regrouped, Stands, then_name}
+use Rattle.task_parse.proofs.PartLemmas.{then_comma, then_value, then_span}
 use Rattle.task_parse.proofs.OperandLemmas.{StandsFlat}
 use Rattle.task_tree.specs.Grammar.{ends}
 

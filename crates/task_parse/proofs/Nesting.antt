@@ -1,5 +1,6 @@
 -- Blocks and the statements that write them, against the blocks that are open between two lines.
-use Rattle.std.proofs.Common.{◌≡◌, ℕ, zero, suc, ◌+◌, ◌<◌, ◌≤◌, true, false, List, [], ◌∷◌, ◌++◌, length, map, ◌⊎◌, inl, inr, Result, Ok, Err, refl, sym, ap, ◌∙◌, arith, append_assoc, append-nil}
+use Rattle.std.proofs.Common.{◌≡◌, ℕ, zero, suc, ◌+◌, ◌<◌, ◌≤◌, true, false, List, [], ◌∷◌, ◌++◌, length, map, ◌⊎◌, inl, inr, Result, Ok, Err, refl}
+use Rattle.std.proofs.Common.{sym, ap, ◌∙◌, arith, append_assoc, append-nil}
 use Rattle.std.specs.Prelude.{nat_le}
 use Rattle.std.proofs.lemmas.Bool.Decides.{nat_tests}
 use Rattle.rt_base.specs.declared.data.FaultKind.{FaultKind}
@@ -10,7 +11,8 @@ use Rattle.task_tree.specs.declared.tree.Stmt.{Stmt}
 use Rattle.task_tree.specs.declared.tree.SpanText.{SpanText}
 use Rattle.task_tree.specs.Reading.{◌>>=◌}
 use Rattle.task_tree.specs.Term.{Term}
-use Rattle.task_tree.specs.Blocks.{Block, Done, Plain, Loop, When, Choice, Work, AccessLine, Place, Top, Body, stmt, access_stmt, written, within, stands, is_main, is_plain, Nested}
+use Rattle.task_tree.specs.Blocks.{Block, Done, Plain, Loop, When, Choice, Work, AccessLine, Place, Top, Body, stmt, access_stmt, written, within}
+use Rattle.task_tree.specs.Blocks.{stands, is_main, is_plain, Nested}
 use Rattle.task_parse.specs.declared.block.OpenBlock.{OpenBlock}
 use Rattle.task_parse.specs.declared.block.OpenBlock.TheVariants as block
 use Rattle.task_parse.specs.Trees.{AreNested, CanGoOn}

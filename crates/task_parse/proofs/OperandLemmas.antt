@@ -16,7 +16,8 @@ use Rattle.task_tree.specs.declared.tree.TagText.TheVariants as tag
 use Rattle.task_tree.specs.Term.{Term}
 use Rattle.task_tree.specs.Grammar.{Is, Is as is}
 use Rattle.task_tree.specs.Reading.{◌>>=◌}
-use Rattle.task_parse.specs.Statements.{IsPeer, IsPeer as is_peer, IsTag, IsTag as is_tag, IsOn, IsOn as is_on, IsStatus, IsStatus as is_status, IsHandle, IsHandle as is_handle, HasStatus, HasStatus as own_status, has_status}
+use Rattle.task_parse.specs.Statements.{IsPeer, IsPeer as is_peer, IsTag, IsTag as is_tag, IsOn, IsOn as is_on, IsStatus, IsStatus as is_status}
+use Rattle.task_parse.specs.Statements.{IsHandle, IsHandle as is_handle, HasStatus, HasStatus as own_status, has_status}
 use Rattle.task_parse.specs.ReadingsOfParts.{Left, name_at, comma_at, value_at}
 use Rattle.task_parse.specs.ReadingsOfOperands.{named_handle, handle_at, peer_at, tag_at, on_at, status_at, own_status_at}
 use Rattle.task_parse.proofs.PartLemmas.{grown, grown_none, value_read, span_last, Gets, then, weaker, Stands, then_name, then_comma, then_value, then_span}

@@ -1,5 +1,6 @@
 -- The lines read one by one give the tree or the first fault of the text, and no other.
-use Rattle.std.proofs.Common.{◌≡◌, ℕ, suc, ◌+◌, ◌≤◌, Bool, true, false, ◌||◌, ◌&&◌, List, [], ◌∷◌, ◌++◌, length, ◌⊎◌, inl, inr, Option, Some, None, Result, Ok, Err, refl, sym, ap, ◌∙◌, arith, append_assoc, append-nil, length-append}
+use Rattle.std.proofs.Common.{◌≡◌, ℕ, suc, ◌+◌, ◌≤◌, Bool, true, false, ◌||◌, ◌&&◌, List, [], ◌∷◌, ◌++◌, length, ◌⊎◌, inl, inr, Option, Some, None}
+use Rattle.std.proofs.Common.{Result, Ok, Err, refl, sym, ap, ◌∙◌, arith, append_assoc, append-nil, length-append}
 use Rattle.std.specs.Prelude.{nat_le, nat_lt, min}
 use Rattle.std.proofs.lemmas.Bool.Decides.{nat_tests}
 use Rattle.rt_base.specs.declared.data.FaultKind.{FaultKind}
@@ -13,7 +14,8 @@ use Rattle.task_parse.specs.declared.block.OpenBlock.{OpenBlock}
 use Rattle.task_parse.specs.Tokens.{tokens_of}
 use Rattle.task_parse.specs.Statements.{IsStatement}
 use Rattle.task_parse.specs.Readings.{statement}
-use Rattle.task_parse.specs.Trees.{lines_of, Spells, Say, none, blank, AreNested, HaveTree, CanGoOn, opens, opening, ending, IsTooDeep, IsFaulty, token, shape, depth, place, HaveFault, at_line, at_end, IsTree, IsFirstFault, IsOutcome}
+use Rattle.task_parse.specs.Trees.{lines_of, Spells, Say, none, blank, AreNested, HaveTree, CanGoOn, opens, opening, ending, IsTooDeep, IsFaulty}
+use Rattle.task_parse.specs.Trees.{token, shape, depth, place, HaveFault, at_line, at_end, IsTree, IsFirstFault, IsOutcome}
 use Rattle.task_parse.specs.Laws.{OneOutcome}
 use Rattle.task_parse.specs.Trees as tree
 use Rattle.task_parse.specs.Openings.{placed, is_too_deep, next, run}

@@ -12,7 +12,8 @@ use Rattle.task_tree.specs.declared.token.Token.TheVariants as token
 use Rattle.task_tree.specs.declared.tree.What.{What}
 use Rattle.task_tree.specs.declared.tree.What.TheVariants as what
 use Rattle.task_parse.specs.ReadingsOfParts.{Left}
-use Rattle.task_parse.specs.ReadingsOfLines.{whole, array_line, show_line, comm_line, let_line, for_line, if_line, touch_line, kernel_line, posting_line, wait_line, waitall_line}
+use Rattle.task_parse.specs.ReadingsOfLines.{whole, array_line, show_line, comm_line, let_line, for_line, if_line, touch_line, kernel_line}
+use Rattle.task_parse.specs.ReadingsOfLines.{posting_line, wait_line, waitall_line}
 
 -- what the word of an operation begins
 unfoldable pub operation : Key → Left → Result (What × ℕ) FaultKind

@@ -6,6 +6,7 @@ use Rattle.task_tree.specs.declared.refusal.LineRefusal.TheVariants as refusal
 
 -- what is read goes on to the next step, and the first fault decides
 infixl 10 ◌>>=◌
+-- what comes next, where nothing was refused
 abbrev pub ◌>>=◌ : {A B : Type 0} → Result A FaultKind → (A → Result B FaultKind) → Result B FaultKind
 (Ok x) >>= f = f x
 (Err e) >>= f = Err e

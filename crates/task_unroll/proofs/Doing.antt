@@ -1,5 +1,6 @@
 -- The statements of a task's body: kernels, calls and waits.
-use Rattle.std.proofs.Common.{◌≡◌, ◌≢◌, ℕ, zero, suc, ◌+◌, ◌*◌, ◌<◌, ◌≤◌, Bool, true, false, List, [], ◌∷◌, ◌++◌, length, Option, Some, None, Result, Ok, Err, refl, sym, ap, ◌∙◌, subst, inl, inr, arith, is_some, is_none}
+use Rattle.std.proofs.Common.{◌≡◌, ◌≢◌, ℕ, zero, suc, ◌+◌, ◌*◌, ◌<◌, ◌≤◌, Bool, true, false, List, [], ◌∷◌, ◌++◌, length, Option, Some, None, Result}
+use Rattle.std.proofs.Common.{Ok, Err, refl, sym, ap, ◌∙◌, subst, inl, inr, arith, is_some, is_none}
 use Rattle.std.specs.Prelude.{Contains, ◌||◌, if◌then◌else◌, ⊤}
 use Rattle.std.specs.List.{list_any}
 use Rattle.rt_base.specs.declared.data.FaultKind.{FaultKind}
@@ -26,7 +27,8 @@ use Rattle.task_unroll.specs.States.{State}
 use Rattle.task_unroll.specs.Operands.{span_of, spans_of, values_of, span_or_none, communicator_of, handles_of, peer_value, tag_value, peer_of, tag_of}
 use Rattle.task_unroll.specs.Checks.{Check, check, passed, no_handle, stands_twice}
 use Rattle.rt_base.specs.KernelForms.{source_count}
-use Rattle.task_unroll.specs.Acts.{listed, op_done, kernel_call, kernel_done, call_checks, is_any_peer, is_any_tag, is_recv, handle_free, handle_check, with_handle, call_done, with_idle, wait_done}
+use Rattle.task_unroll.specs.Acts.{listed, op_done, kernel_call, kernel_done, call_checks, is_any_peer, is_any_tag, is_recv, handle_free}
+use Rattle.task_unroll.specs.Acts.{handle_check, with_handle, call_done, with_idle, wait_done}
 use Rattle.task_unroll.proofs.Results.{Holds, bind, bind_by, holds_of}
 use Rattle.task_unroll.proofs.Bodies.{left_stays, left_below, left_new}
 use Rattle.task_unroll.proofs.Meanings.{AllMean, all_mean_with}

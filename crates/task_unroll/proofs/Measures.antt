@@ -1,6 +1,7 @@
 -- Each step of the walk counts a statement or a turn, or leads to a later place.
 use Rattle.std.specs.Prelude.{if◌then◌else◌}
-use Rattle.std.proofs.Common.{◌≡◌, ℕ, ◌+◌, ◌-◌, ◌*◌, ◌<◌, ◌≤◌, nat_le, Bool, true, false, int_lt, List, [], ◌∷◌, length, slice_get, Option, Some, None, Result, Ok, Err, refl, subst, arith}
+use Rattle.std.proofs.Common.{◌≡◌, ℕ, ◌+◌, ◌-◌, ◌*◌, ◌<◌, ◌≤◌, nat_le, Bool, true, false, int_lt, List, [], ◌∷◌, length, slice_get, Option, Some}
+use Rattle.std.proofs.Common.{None, Result, Ok, Err, refl, subst, arith}
 use Rattle.std.proofs.lemmas.Bool.Decides.{nat_tests}
 use Rattle.std.proofs.Math.Nat.{mul-le-mul_right}
 use Rattle.std.proofs.lemmas.Option.{slice_get_within}
@@ -29,10 +30,12 @@ use Rattle.task_unroll.specs.States.{State}
 use Rattle.task_unroll.specs.Counting.{kept, stepped, operated}
 use Rattle.task_unroll.specs.Operands.{span_of, peer_value, tag_value, communicator_of, span_or_none, handles_of, peer_of, tag_of}
 use Rattle.task_unroll.specs.Checks.{Check, check, passed, stands_twice}
-use Rattle.task_unroll.specs.Acts.{array_made, shown, comm_made, variable_set, taskwait_met, task_begun, access_made, op_done, kernel_done, call_done, wait_done, task_ended, none_left, call_checks, handle_free, handle_check, listed}
+use Rattle.task_unroll.specs.Acts.{array_made, shown, comm_made, variable_set, taskwait_met, task_begun, access_made, op_done, kernel_done, call_done}
+use Rattle.task_unroll.specs.Acts.{wait_done, task_ended, none_left, call_checks, handle_free, handle_check, listed}
 use Rattle.task_unroll.specs.Blocks.{bounds, holds}
 use Rattle.task_unroll.specs.Ends.{close_of}
-use Rattle.task_unroll.specs.Steps.{Spot, variable_of, turn, loop_met, branch, test_met, branch_left, turn_or_on, turn_ended, level_ended, block_ended, task_met, access_met, line_met, step_to, step}
+use Rattle.task_unroll.specs.Steps.{Spot, variable_of, turn, loop_met, branch, test_met, branch_left, turn_or_on, turn_ended, level_ended}
+use Rattle.task_unroll.specs.Steps.{block_ended, task_met, access_met, line_met, step_to, step}
 
 -- what was got, if anything was
 abbrev pub Got : {X : Type 0} → (X → Type 0) → Result X ExpandRefusal → Type 0

@@ -1,6 +1,7 @@
 -- Each step of the walk goes on with what its blocks leave to do.
 use Rattle.std.specs.Prelude.{if◌then◌else◌}
-use Rattle.std.proofs.Common.{◌≡◌, ℕ, ◌+◌, ℤ, pos, ◌+ℤ◌, ◌-ℤ◌, int_lt, Bool, true, false, List, [], ◌∷◌, ◌++◌, map, drop, slice_get, Some, None, Result, Ok, Err, refl, ap, sym, subst, ◌∙◌}
+use Rattle.std.proofs.Common.{◌≡◌, ℕ, ◌+◌, ℤ, pos, ◌+ℤ◌, ◌-ℤ◌, int_lt, Bool, true, false, List, [], ◌∷◌, ◌++◌, map, drop, slice_get, Some, None}
+use Rattle.std.proofs.Common.{Result, Ok, Err, refl, ap, sym, subst, ◌∙◌}
 use Rattle.std.proofs.lemmas.List.{append_assoc, append-nil}
 use Rattle.task_tree.specs.declared.tree.Stmt.{Stmt}
 use Rattle.task_tree.specs.declared.tree.What.{What}
@@ -16,11 +17,13 @@ use Rattle.task_unroll.specs.Counting.{stepped}
 use Rattle.task_unroll.specs.Acts.{with_variable, task_begun, access_made, task_ended}
 use Rattle.task_unroll.specs.Blocks.{act, accesses_made, turns_of, turns, bounds, holds, unrolled}
 use Rattle.task_unroll.specs.Ends.{close_of}
-use Rattle.task_unroll.specs.Steps.{Spot, spot, variable_of, parts, turn, loop_met, branch, test_met, branch_left, outer, turn_ended, block_ended, task_met, access_met, line_met, step_to, step}
+use Rattle.task_unroll.specs.Steps.{Spot, spot, variable_of, parts, turn, loop_met, branch, test_met, branch_left, outer, turn_ended, block_ended}
+use Rattle.task_unroll.specs.Steps.{task_met, access_met, line_met, step_to, step}
 use Rattle.task_unroll.proofs.PlaceLemmas.{head_at, none_at, end_at, next_at}
 use Rattle.task_unroll.proofs.EndLemmas.{closed_at}
 use Rattle.task_unroll.proofs.TurnLemmas.{no_turn, one_turn}
-use Rattle.task_unroll.proofs.Frames.{Ahead, Ahead as ahead, written_ahead, done_ahead, Frame, Frame as frame, tail, after, level_of, IsSet, AreSet, IsHere, IsAt, Agrees}
+use Rattle.task_unroll.proofs.Frames.{Ahead, Ahead as ahead, written_ahead, done_ahead, Frame, Frame as frame, tail, after, level_of, IsSet, AreSet}
+use Rattle.task_unroll.proofs.Frames.{IsHere, IsAt, Agrees}
 
 assoc : {A B C : Type 0} (c : Result A ExpandRefusal) (f : A → Result B ExpandRefusal) (g : B → Result C ExpandRefusal)
     → ((c >>= f) >>= g) ≡ (c >>= (λ x. f x >>= g))

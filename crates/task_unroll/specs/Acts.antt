@@ -1,5 +1,6 @@
 -- What each statement does: its limits that come first, its operands, its tests, its limits that come last, and what it leaves (this project's).
-use Rattle.std.specs.Prelude.{ℕ, zero, suc, ◌+◌, ◌-◌, ◌≡◌, ℤ, pos, negsuc, Bool, true, false, nat_eq, ◌&&◌, List, [], ◌∷◌, ◌++◌, length, Contains, slice_index_or, slice_get, Option, Some, None, is_some, is_none, ◌||◌, Result, Ok, Err, ⊤, if◌then◌else◌}
+use Rattle.std.specs.Prelude.{ℕ, zero, suc, ◌+◌, ◌-◌, ◌≡◌, ℤ, pos, negsuc, Bool, true, false, nat_eq, ◌&&◌, List, [], ◌∷◌, ◌++◌, length, Contains}
+use Rattle.std.specs.Prelude.{slice_index_or, slice_get, Option, Some, None, is_some, is_none, ◌||◌, Result, Ok, Err, ⊤, if◌then◌else◌}
 use Rattle.std.specs.List.{list_any}
 use Rattle.rt_base.specs.Listing.{Listing}
 use Rattle.rt_base.specs.declared.data.FaultKind.{FaultKind}

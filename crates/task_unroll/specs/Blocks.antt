@@ -10,7 +10,8 @@ use Rattle.task_unroll.specs.declared.refusal.ExpandRefusal.{ExpandRefusal}
 use Rattle.task_unroll.specs.Unrolling.{◌>>=◌, at}
 use Rattle.task_unroll.specs.States.{State, scene}
 use Rattle.task_unroll.specs.Counting.{stepped}
-use Rattle.task_unroll.specs.Acts.{array_made, shown, comm_made, with_variable, variable_set, taskwait_met, task_begun, access_made, kernel_done, call_done, wait_done, task_ended}
+use Rattle.task_unroll.specs.Acts.{array_made, shown, comm_made, with_variable, variable_set, taskwait_met, task_begun, access_made, kernel_done}
+use Rattle.task_unroll.specs.Acts.{call_done, wait_done, task_ended}
 
 -- what a statement does that is a line by itself
 abbrev pub act : ℕ → What → State → Result State ExpandRefusal

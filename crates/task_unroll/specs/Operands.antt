@@ -1,5 +1,6 @@
 -- The operands of a statement: their names and values, from left to right (this project's).
-use Rattle.std.specs.Prelude.{ℕ, ◌≡◌, ℤ, pos, negsuc, ◌&&◌, nat_le, nat_lt, Bool, true, false, List, [], ◌∷◌, slice_index_or, Option, Some, None, Result, Ok, Err, if◌then◌else◌}
+use Rattle.std.specs.Prelude.{ℕ, ◌≡◌, ℤ, pos, negsuc, ◌&&◌, nat_le, nat_lt, Bool, true, false, List, [], ◌∷◌, slice_index_or, Option, Some, None}
+use Rattle.std.specs.Prelude.{Result, Ok, Err, if◌then◌else◌}
 use Rattle.rt_base.specs.declared.data.FaultKind.{FaultKind}
 use Rattle.rt_base.specs.declared.data.FaultKind.TheVariants as fault
 use Rattle.rt_base.specs.declared.data.Span.{Span}

@@ -6,6 +6,7 @@ use Rattle.task_unroll.specs.declared.refusal.ExpandRefusal.TheVariants as refus
 
 -- what one statement leaves goes on to the next, and the first fault or limit decides
 infixl 10 ◌>>=◌
+-- what comes next, where nothing was refused
 abbrev pub ◌>>=◌ : {A B E : Type 0} → Result A E → (A → Result B E) → Result B E
 (Ok x) >>= f = f x
 (Err e) >>= f = Err e

@@ -145,7 +145,8 @@ fn kernel_is_formed(
     right: Option<Span>,
     value: i64,
 ) -> Result<(), FaultKind>
-    ensures { result ≡ passed (check fault.LengthMismatch (has_wrong_length kernel dst left right) ∷ check fault.BadShift (has_bad_shift kernel value) ∷ check fault.EmptySource (has_no_source kernel left) ∷ []) }
+    ensures { result ≡ passed (check fault.LengthMismatch (has_wrong_length kernel dst left right) ∷ check fault.BadShift (has_bad_shift kernel value)
+        ∷ check fault.EmptySource (has_no_source kernel left) ∷ []) }
 {
     if has_wrong_length(kernel, dst, left, right) {
         return Err(FaultKind::LengthMismatch);
@@ -272,7 +273,8 @@ impl State {
     // The tests that come behind those of the accesses.
     #[tactic(auto, using(crate::proofs::Testing::passed_on, crate::proofs::Testing::passed_not))]
     fn tested_within(&self, handles: HandleCheck, operation: &Op) -> Result<(), FaultKind>
-        ensures { result ≡ passed (form_checks operation.now ++ check handles.kind handles.finds ∷ check fault.InUse (is_in_use self.now.accesses self.now.body operation.now) ∷ []) }
+        ensures { result ≡ passed (form_checks operation.now ++ check handles.kind handles.finds
+            ∷ check fault.InUse (is_in_use self.now.accesses self.now.body operation.now) ∷ []) }
     {
         match is_formed(operation) {
             Ok(()) => {}

@@ -75,7 +75,8 @@ impl Model for State {
     ghost use Rattle.std.specs.Prelude.{◌≤◌, sum};
     ghost use Rattle.rt_base.specs.Operations.{postings};
 
-    ghost invariant = { λ s. (s.epoch ≤ s.counts.steps) × (postings s.body ≤ s.counts.requests) × (sum s.lens.items ≤ s.counts.cells) × (sum s.lens.items ≤ 16777216) };
+    ghost invariant = { λ s. (s.epoch ≤ s.counts.steps) × (postings s.body ≤ s.counts.requests) × (sum s.lens.items ≤ s.counts.cells)
+        × (sum s.lens.items ≤ 16777216) };
 }
 
 impl Counts {

@@ -69,7 +69,8 @@ impl Walk {
         state: &mut State,
     ) -> Result<(), ExpandRefusal>
         requires { turns.at < 2 ^ 63 }
-        ensures { Gives (λ _. spot state.new self.new.place self.new.levels) result (turn name.now turns behind (spot state.old self.old.place self.old.levels)) }
+        ensures { Gives (λ _. spot state.new self.new.place self.new.levels) result (turn name.now turns behind
+            (spot state.old self.old.place self.old.levels)) }
     {
         if turns.next < turns.to {
             state.stepped(alloc)?;
@@ -99,7 +100,8 @@ impl Walk {
     ) -> Result<(), ExpandRefusal>
         requires at { self.old.place < 2 ^ 63 }
         requires end { end < 2 ^ 63 }
-        ensures { Gives (λ _. spot state.new self.new.place self.new.levels) result (loop_met end line name.now from.now to.now (spot state.old self.old.place self.old.levels)) }
+        ensures { Gives (λ _. spot state.new self.new.place self.new.levels) result (loop_met end line name.now from.now to.now
+            (spot state.old self.old.place self.old.levels)) }
     {
         let (next, to) = state.bounds(alloc, line, name, from, to)?;
         let turns = Turns {
@@ -142,7 +144,8 @@ impl Walk {
     ) -> Result<(), ExpandRefusal>
         requires at { self.old.place < 2 ^ 63 }
         requires end { end < 2 ^ 63 }
-        ensures { Gives (λ _. spot state.new self.new.place self.new.levels) result (test_met stmts.now line test.now end (spot state.old self.old.place self.old.levels)) }
+        ensures { Gives (λ _. spot state.new self.new.place self.new.levels) result (test_met stmts.now line test.now end
+            (spot state.old self.old.place self.old.levels)) }
     {
         let holds = state.holds(alloc, line, test)?;
         self.branch(stmts, end, holds)?;
@@ -169,7 +172,8 @@ impl Walk {
         state: &mut State,
     ) -> Result<(), ExpandRefusal>
         requires { self.old.place < 2 ^ 63 }
-        ensures { Gives (λ _. spot state.new self.new.place self.new.levels) result (turn_ended stmts.now turns (spot state.old self.old.place self.old.levels)) }
+        ensures { Gives (λ _. spot state.new self.new.place self.new.levels) result (turn_ended stmts.now turns
+            (spot state.old self.old.place self.old.levels)) }
     {
         let behind = self.place + 1;
         match variable_of(stmts, turns.at) {
@@ -225,7 +229,8 @@ impl Walk {
         state: &mut State,
     ) -> Result<(), ExpandRefusal>
         requires { self.old.place < 2 ^ 63 }
-        ensures { Gives (λ _. spot state.new self.new.place self.new.levels) result (access_met line mode span.now (spot state.old self.old.place self.old.levels)) }
+        ensures { Gives (λ _. spot state.new self.new.place self.new.levels) result (access_met line mode span.now
+            (spot state.old self.old.place self.old.levels)) }
     {
         state.access_made(alloc, line, mode, span)?;
         self.place += 1;
@@ -261,7 +266,8 @@ impl Walk {
     ) -> Result<(), ExpandRefusal>
         requires table { AreEnds stmts.now ends.now }
         requires here { slice_get stmts.now self.old.place ≡ Some stmt.now }
-        ensures { Gives (λ _. spot state.new self.new.place self.new.levels) result (step stmts.now stmt.now.line stmt.now.what (spot state.old self.old.place self.old.levels)) }
+        ensures { Gives (λ _. spot state.new self.new.place self.new.levels) result (step stmts.now stmt.now.line stmt.now.what
+            (spot state.old self.old.place self.old.levels)) }
     {
         let end = end_behind(stmts, ends, self.place, &stmt.what);
         let line = stmt.line;

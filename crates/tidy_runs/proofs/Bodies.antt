@@ -26,7 +26,7 @@ use Rattle.rt_base.specs.WellFormed.{IsOpen, NamesOther}
 use Rattle.rt_base.proofs.SameRequest.{one_request}
 use Rattle.task_local.specs.Local.{stop_at, stop}
 use Rattle.task_machine.specs.Machine.{open_ones}
-use Rattle.task_machine.specs.Owed.{IsIn}
+use Rattle.task_machine.specs.Owed.{IsOneOf}
 use Rattle.task_machine.proofs.Items.{same_some, either_place}
 use Rattle.tidy_runs.specs.Tidy.{called, binds, bindings, AreOf, IsBoundBy}
 
@@ -50,13 +50,13 @@ neither false true e = absurd (cc)
 neither true b e = absurd (cc)
 
 -- a request that is in one of two lists
-pub in_either : (q : ReqNo) (xs ys : List ReqNo) → IsIn q (xs ++ ys) → IsIn q xs ⊎ IsIn q ys
+pub in_either : (q : ReqNo) (xs ys : List ReqNo) → IsOneOf q (xs ++ ys) → IsOneOf q xs ⊎ IsOneOf q ys
 in_either q xs ys has = or_cases (list_any (same_request q) xs) (list_any (same_request q) ys) (sym (list_any-append (same_request q) xs ys) ∙ has)
 
-pub in_left : (q : ReqNo) (xs ys : List ReqNo) → IsIn q xs → IsIn q (xs ++ ys)
+pub in_left : (q : ReqNo) (xs ys : List ReqNo) → IsOneOf q xs → IsOneOf q (xs ++ ys)
 in_left q xs ys has = list_any-append (same_request q) xs ys ∙ or_left (list_any (same_request q) xs) (list_any (same_request q) ys) has
 
-pub in_right : (q : ReqNo) (xs ys : List ReqNo) → IsIn q ys → IsIn q (xs ++ ys)
+pub in_right : (q : ReqNo) (xs ys : List ReqNo) → IsOneOf q ys → IsOneOf q (xs ++ ys)
 in_right q xs ys has = list_any-append (same_request q) xs ys ∙ or_right (list_any (same_request q) xs) (list_any (same_request q) ys) has
 
 -- how often a request stands in a list
@@ -89,7 +89,7 @@ pub own-append : (t : ℕ) (xs ys : List ReqNo) → AreOf t xs → AreOf t ys �
 own-append t [] ys first second = second
 own-append t (x ∷ xs) ys first second = (first.0, own-append t xs ys first.1 second)
 
-pub own_in : (t : ℕ) (reqs : List ReqNo) (q : ReqNo) → AreOf t reqs → IsIn q reqs → q.task.0 ≡ t
+pub own_in : (t : ℕ) (reqs : List ReqNo) (q : ReqNo) → AreOf t reqs → IsOneOf q reqs → q.task.0 ≡ t
 own_in t [] q own has = absurd (false≢true has)
 own_in t (r ∷ reqs) q own has = elim (or_cases (same_request q r) (list_any (same_request q) reqs) has) [
   | inl same ↦ ap (λ (z : ReqNo). z.task.0) (one_request q r same) ∙ own.0
@@ -124,22 +124,22 @@ open_fewer p x q (r ∷ reqs) =
     let rest = fewer_by q r (open_ones p x reqs) (times q reqs) (is_complete p x r) (open_fewer p x q reqs) in
     omega (arith, rest, times-cons q r reqs)
 
-among : (q r : ReqNo) (left reqs : List ReqNo) (b : Bool) → (IsIn q left → IsIn q reqs) → IsIn q (cond b left (r ∷ left)) → IsIn q (r ∷ reqs)
+among : (q r : ReqNo) (left reqs : List ReqNo) (b : Bool) → (IsOneOf q left → IsOneOf q reqs) → IsOneOf q (cond b left (r ∷ left)) → IsOneOf q (r ∷ reqs)
 among q r left reqs true rest has = or_right (same_request q r) (list_any (same_request q) reqs) (rest has)
 among q r left reqs false rest has = elim (or_cases (same_request q r) (list_any (same_request q) left) has) [
   | inl same ↦ or_left (same_request q r) (list_any (same_request q) reqs) same
   | inr later ↦ or_right (same_request q r) (list_any (same_request q) reqs) (rest later)
 ]
 
-pub open_among : (p : Program) (x : Exchange) (q : ReqNo) (reqs : List ReqNo) → IsIn q (open_ones p x reqs) → IsIn q reqs
+pub open_among : (p : Program) (x : Exchange) (q : ReqNo) (reqs : List ReqNo) → IsOneOf q (open_ones p x reqs) → IsOneOf q reqs
 open_among p x q [] has = has
 open_among p x q (r ∷ reqs) has = among q r (open_ones p x reqs) reqs (is_complete p x r) (open_among p x q reqs) has
 
-kept : (q r : ReqNo) (left : List ReqNo) (b : Bool) → IsIn q left → IsIn q (cond b left (r ∷ left))
+kept : (q r : ReqNo) (left : List ReqNo) (b : Bool) → IsOneOf q left → IsOneOf q (cond b left (r ∷ left))
 kept q r left true has = has
 kept q r left false has = or_right (same_request q r) (list_any (same_request q) left) has
 
-pub open_has : (p : Program) (x : Exchange) (q : ReqNo) (reqs : List ReqNo) → is_complete p x q ≡ false → IsIn q reqs → IsIn q (open_ones p x reqs)
+pub open_has : (p : Program) (x : Exchange) (q : ReqNo) (reqs : List ReqNo) → is_complete p x q ≡ false → IsOneOf q reqs → IsOneOf q (open_ones p x reqs)
 open_has p x q [] undone has = has
 open_has p x q (r ∷ reqs) undone has = elim (or_cases (same_request q r) (list_any (same_request q) reqs) has) [
   | inl same ↦
@@ -182,7 +182,7 @@ named_once t (handle.Nth n ∷ handles) q apart =
 is_itself : (m n : ℕ) → m ≡ n → nat_eq m n ≡ true
 is_itself m n e = grind (arith, nat_tests)
 
-pub named_by : (t n : ℕ) (handles : List Handle) → IsIn (request t n) (named_requests t handles)
+pub named_by : (t n : ℕ) (handles : List Handle) → IsOneOf (request t n) (named_requests t handles)
     → Contains handles (handle.Nth n) × (list_any (is_nth n) handles ≡ true)
 named_by t n [] has = absurd (false≢true has)
 named_by t n (handle.Null ∷ handles) has =
@@ -315,14 +315,14 @@ closed_by front x n below closed (inr here) = absurd (omega (arith, below, (left
 -- of the requests of task t these operations posted those in the list, leave none of them, and none stands there twice
 pub record ClosedBy (t : ℕ) (front : List Op) (reqs : List ReqNo) : Type 0 where
   pub few : (n : ℕ) → times (request t n) reqs ≤ 1
-  pub posted : (n : ℕ) → IsIn (request t n) reqs → n < postings front
-  pub closed : (n : ℕ) → IsIn (request t n) reqs → Contains (left_after 0 front) n → ⊥
+  pub posted : (n : ℕ) → IsOneOf (request t n) reqs → n < postings front
+  pub closed : (n : ℕ) → IsOneOf (request t n) reqs → Contains (left_after 0 front) n → ⊥
 
 -- requests of task t to which an operation behind these comes
 pub record Adds (t : ℕ) (front : List Op) (x : Op) (new : List ReqNo) : Type 0 where
   pub own : AreOf t new
   pub few : (q : ReqNo) → times q new ≤ 1
-  pub comes : (n : ℕ) → IsIn (request t n) new → ComesTo front x n
+  pub comes : (n : ℕ) → IsOneOf (request t n) new → ComesTo front x n
 
 -- over any operation
 pub closed_on : (t : ℕ) (front : List Op) (x : Op) (reqs : List ReqNo) → ClosedBy t front reqs → ClosedBy t (front ++ x ∷ []) reqs
@@ -332,7 +332,7 @@ closed_on t front x reqs c = record {
   closed = λ n has left. closed_by front x n (c.posted n has) (c.closed n has) (left_back 0 n front x left);
 }
 
-not_before : (t : ℕ) (front : List Op) (x : Op) (reqs : List ReqNo) (n : ℕ) → ClosedBy t front reqs → ComesTo front x n → IsIn (request t n) reqs → ⊥
+not_before : (t : ℕ) (front : List Op) (x : Op) (reqs : List ReqNo) (n : ℕ) → ClosedBy t front reqs → ComesTo front x n → IsOneOf (request t n) reqs → ⊥
 not_before t front x reqs n c (inl named) has = c.closed n has named.0
 not_before t front x reqs n c (inr own) has = absurd (omega (arith, own.0, c.posted n has))
 

@@ -23,7 +23,7 @@ use Rattle.task_local.specs.Local.{stop}
 use Rattle.task_local.specs.Packed.{packed}
 use Rattle.task_machine.specs.Machine.{Moved, move_at, call_move, post_move, await_move, step, MayStep, listened, is_expected, open_ones}
 use Rattle.task_machine.specs.Legal.{IsDefined, state_after, state_of}
-use Rattle.task_machine.specs.Owed.{opened, opened_of, opened_at, opened_by, opened_by_posting, opened_by_step, IsIn, IsOwed}
+use Rattle.task_machine.specs.Owed.{opened, opened_of, opened_at, opened_by, opened_by_posting, opened_by_step, IsOneOf, IsOwed}
 use Rattle.task_machine.proofs.Rows.{move-row}
 use Rattle.task_machine.proofs.Items.{either_place, at_replicate}
 use Rattle.task_machine.proofs.Runs.{step-task, exists_of_move, IsDefined-push}
@@ -269,11 +269,11 @@ openings-push p s (d ∷ cs) c =
     ∙ sym (append_assoc (opened_by_step p s d []) (openings p (step p s d).state cs) (opened_by_step p (state_after p (step p s d).state cs) c []))
 
 -- a request that is in a list stands there at least once
-counted : (q r : ReqNo) (reqs : List ReqNo) → (IsIn q reqs → 1 ≤ times q reqs) → (same_request q r ≡ true) ⊎ IsIn q reqs → 1 ≤ times q (r ∷ reqs)
+counted : (q r : ReqNo) (reqs : List ReqNo) → (IsOneOf q reqs → 1 ≤ times q reqs) → (same_request q r ≡ true) ⊎ IsOneOf q reqs → 1 ≤ times q (r ∷ reqs)
 counted q r reqs rest (inl same) = omega (arith, times-cons q r reqs, count_one (same_request q r) same)
 counted q r reqs rest (inr later) = omega (arith, times-cons q r reqs, rest later)
 
-pub some_counts : (q : ReqNo) (reqs : List ReqNo) → IsIn q reqs → 1 ≤ times q reqs
+pub some_counts : (q : ReqNo) (reqs : List ReqNo) → IsOneOf q reqs → 1 ≤ times q reqs
 some_counts q [] has = absurd (false≢true has)
 some_counts q (r ∷ reqs) has = counted q r reqs (some_counts q reqs) (or_cases (same_request q r) (list_any (same_request q) reqs) has)
 
@@ -287,7 +287,7 @@ opened_new p w cs well runs t may q opens before =
     absurd (omega (arith, few, count, some_counts q (openings p (opening p) cs) before, some_counts q (opened p s t) opens))
 
 -- what is owed was opened
-move_opens : (p : Program) (s : State) (t : ℕ) (q : ReqNo) → t < length p.tasks.items → IsOwed p (step p s t).state q → IsOwed p s q ⊎ IsIn q (opened p s t)
+move_opens : (p : Program) (s : State) (t : ℕ) (q : ReqNo) → t < length p.tasks.items → IsOwed p (step p s t).state q → IsOwed p s q ⊎ IsOneOf q (opened p s t)
 move_opens p s t q exists owed = move_owes p s t q (subst (λ (m : Moved). IsOwed p m.state q) (step-task p s t exists) owed)
 
 step_poll : (p : Program) (s : State) (c : ℕ) (q : ReqNo) → length p.tasks.items ≤ c → IsOwed p (step p s c).state q → IsOwed p s q
@@ -295,16 +295,16 @@ unfolding step
 step_poll p s c q above = rw (past c (length p.tasks.items) above) (poll_owes p s _ q)
 
 step_opens : (p : Program) (w : ℕ) (s : State) (c : ℕ) (q : ReqNo) → MayStep p w s c → IsOwed p (step p s c).state q
-    → IsOwed p s q ⊎ IsIn q (opened_by_step p s c [])
+    → IsOwed p s q ⊎ IsOneOf q (opened_by_step p s c [])
 step_opens p w s c q may owed = elim may [
   | inl moves ↦
-      subst (λ (new : List ReqNo). IsOwed p s q ⊎ IsIn q new) (sym (opened-task p s c (exists_of_move p s c moves)))
+      subst (λ (new : List ReqNo). IsOwed p s q ⊎ IsOneOf q new) (sym (opened-task p s c (exists_of_move p s c moves)))
       (move_opens p s c q (exists_of_move p s c moves) owed)
   | inr polls ↦ inl (step_poll p s c q polls.poller owed)
 ]
 
 run_opens : (p : Program) (w : ℕ) (s : State) (cs : List ℕ) (q : ReqNo) → IsDefined p w s cs → IsOwed p (state_after p s cs) q
-    → IsOwed p s q ⊎ IsIn q (openings p s cs)
+    → IsOwed p s q ⊎ IsOneOf q (openings p s cs)
 run_opens p w s [] q runs owed = inl owed
 run_opens p w s (c ∷ cs) q runs owed =
     let new = opened_by_step p s c [] in

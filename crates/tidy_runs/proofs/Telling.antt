@@ -24,7 +24,7 @@ use Rattle.rt_base.proofs.SameRequest.{one_request}
 use Rattle.task_local.specs.Local.{stop_at, stop}
 use Rattle.task_machine.specs.Machine.{Moved, move, move_at, call_move, post_move, await_move, step, MayStep, awaited_at, listened}
 use Rattle.task_machine.specs.Machine.{is_expected, open_ones}
-use Rattle.task_machine.specs.Owed.{opened, opened_at, opened_by, opened_by_posting, opened_by_step, IsIn}
+use Rattle.task_machine.specs.Owed.{opened, opened_at, opened_by, opened_by_posting, opened_by_step, IsOneOf}
 use Rattle.task_machine.specs.Legal.{IsDefined, state_after}
 use Rattle.task_machine.proofs.Rows.{move-row}
 use Rattle.task_machine.proofs.Items.{same_some, either_place, at_replicate}
@@ -38,14 +38,14 @@ use Rattle.tidy_runs.proofs.OpenedOnce.{opened-row, opened_own, opened-task}
 
 -- the incomplete ones of a list are incomplete, and where there are none all are complete
 undone_by : (p : Program) (x : Exchange) (r q : ReqNo) (left : List ReqNo) (b : Bool) → is_complete p x r ≡ b
-    → (IsIn q left → is_complete p x q ≡ false) → IsIn q (cond b left (r ∷ left)) → is_complete p x q ≡ false
+    → (IsOneOf q left → is_complete p x q ≡ false) → IsOneOf q (cond b left (r ∷ left)) → is_complete p x q ≡ false
 undone_by p x r q left true is rest has = rest has
 undone_by p x r q left false is rest has = elim (or_cases (same_request q r) (list_any (same_request q) left) has) [
   | inl same ↦ ap (is_complete p x) (one_request q r same) ∙ is
   | inr later ↦ rest later
 ]
 
-open_undone : (p : Program) (x : Exchange) (reqs : List ReqNo) (q : ReqNo) → IsIn q (open_ones p x reqs) → is_complete p x q ≡ false
+open_undone : (p : Program) (x : Exchange) (reqs : List ReqNo) (q : ReqNo) → IsOneOf q (open_ones p x reqs) → is_complete p x q ≡ false
 open_undone p x [] q has = absurd (false≢true has)
 open_undone p x (r ∷ reqs) q has = undone_by p x r q (open_ones p x reqs) (is_complete p x r) refl (open_undone p x reqs q) has
 
@@ -59,7 +59,7 @@ none_undone p x (r ∷ reqs) none =
     let both = done_by r (open_ones p x reqs) (is_complete p x r) none in
     (both.0, none_undone p x reqs both.1)
 
-complete_in : (p : Program) (x : Exchange) (reqs : List ReqNo) (q : ReqNo) → AreComplete p x reqs → IsIn q reqs → is_complete p x q ≡ true
+complete_in : (p : Program) (x : Exchange) (reqs : List ReqNo) (q : ReqNo) → AreComplete p x reqs → IsOneOf q reqs → is_complete p x q ≡ true
 complete_in p x [] q complete has = absurd (false≢true has)
 complete_in p x (r ∷ reqs) q complete has = elim (or_cases (same_request q r) (list_any (same_request q) reqs) has) [
   | inl same ↦ ap (is_complete p x) (one_request q r same) ∙ complete.0
@@ -74,11 +74,11 @@ record Row (p : Program) (t : ℕ) (def : TaskDef) (was : Task) (after : State) 
   stays : (k : ℕ) → task.phase ≡ phase.In k → task.bound ≡ was.bound
   waits : (k : ℕ) → task.phase ≡ phase.In k → new ≡ open_ones p after.exchange (awaited t def k)
   goes : ((k : ℕ) → task.phase ≡ phase.In k → ⊥) → task.bound ≡ was.bound ++ new
-  incomplete : (q : ReqNo) → IsIn q new → is_complete p after.exchange q ≡ false
+  incomplete : (q : ReqNo) → IsOneOf q new → is_complete p after.exchange q ≡ false
 
 -- the task is in no operation after it
 row_on : (p : Program) (t : ℕ) (def : TaskDef) (was now : Task) (after : State) (new : List ReqNo) → slice_get after.tasks t ≡ Some now
-    → ((k : ℕ) → now.phase ≡ phase.In k → ⊥) → now.bound ≡ was.bound ++ new → ((q : ReqNo) → IsIn q new → is_complete p after.exchange q ≡ false)
+    → ((k : ℕ) → now.phase ≡ phase.In k → ⊥) → now.bound ≡ was.bound ++ new → ((q : ReqNo) → IsOneOf q new → is_complete p after.exchange q ≡ false)
     → Row p t def was after new
 row_on p t def was now after new here outside bound undone = record {
   task = now;
@@ -221,15 +221,15 @@ in_or_not phase.Released = inr (λ k is. absurd (cc))
 
 -- what a move opens is bound or awaited after it
 told_of : (p : Program) (t : ℕ) (def : TaskDef) (was : Task) (after : State) (new : List ReqNo) (q : ReqNo) → (row : Row p t def was after new)
-    → IsIn q new → IsIn q (row.task.bound ++ awaited_at t (Some def) (Some row.task.phase))
+    → IsOneOf q new → IsOneOf q (row.task.bound ++ awaited_at t (Some def) (Some row.task.phase))
 told_of p t def was after new q row has =
     let waits = awaited_at t (Some def) (Some row.task.phase) in
     elim (in_or_not row.task.phase) [
       | inl inside ↦
-          let among : IsIn q (awaited t def inside.0) =
-          open_among p after.exchange q (awaited t def inside.0) (subst (IsIn q) (row.waits inside.0 inside.1) has) in
-          in_right q row.task.bound waits (subst (λ (at : Phase). IsIn q (awaited_at t (Some def) (Some at))) (sym inside.1) among)
-      | inr outside ↦ in_left q row.task.bound waits (subst (IsIn q) (sym (row.goes outside)) (in_right q was.bound new has))
+          let among : IsOneOf q (awaited t def inside.0) =
+          open_among p after.exchange q (awaited t def inside.0) (subst (IsOneOf q) (row.waits inside.0 inside.1) has) in
+          in_right q row.task.bound waits (subst (λ (at : Phase). IsOneOf q (awaited_at t (Some def) (Some at))) (sym inside.1) among)
+      | inr outside ↦ in_left q row.task.bound waits (subst (IsOneOf q) (sym (row.goes outside)) (in_right q was.bound new has))
     ]
 
 pub opened_owed : OpenedAreOwed
@@ -244,14 +244,14 @@ opened_owed p s t may q has =
 
 -- an incomplete request that is expected stays so
 still_bound : (p : Program) (t : ℕ) (def : TaskDef) (was : Task) (after : State) (new : List ReqNo) (q : ReqNo) → (row : Row p t def was after new)
-    → IsIn q was.bound → IsIn q row.task.bound
+    → IsOneOf q was.bound → IsOneOf q row.task.bound
 still_bound p t def was after new q row has = elim (in_or_not row.task.phase) [
-  | inl inside ↦ subst (IsIn q) (sym (row.stays inside.0 inside.1)) has
-  | inr outside ↦ subst (IsIn q) (sym (row.goes outside)) (in_left q was.bound new has)
+  | inl inside ↦ subst (IsOneOf q) (sym (row.stays inside.0 inside.1)) has
+  | inr outside ↦ subst (IsOneOf q) (sym (row.goes outside)) (in_left q was.bound new has)
 ]
 
 awaits_none : (p : Program) (tasks : List Task) (x : Exchange) (t : ℕ) (def : TaskDef) (was : Task) (at : Phase) (q : ReqNo)
-    → MayMoveAt p tasks x t def was at → is_complete p x q ≡ false → IsIn q (awaited_at t (Some def) (Some at)) → ⊥
+    → MayMoveAt p tasks x t def was at → is_complete p x q ≡ false → IsOneOf q (awaited_at t (Some def) (Some at)) → ⊥
 awaits_none p tasks x t def was phase.Waiting q may undone has = false≢true has
 awaits_none p tasks x t def was (phase.At k) q may undone has = false≢true has
 awaits_none p tasks x t def was (phase.In k) q may undone has = both_ways (is_complete p x q) undone (complete_in p x (awaited t def k) q may has)
@@ -289,24 +289,24 @@ expected_stays p s t may q undone expected = elim (either_place q.task.0 t) [
 
 -- all that is bound is among these requests
 abbrev BoundIn : State → List ReqNo → Type 0
-BoundIn s reqs = (t : ℕ) (task : Task) → slice_get s.tasks t ≡ Some task → (q : ReqNo) → IsIn q task.bound → IsIn q reqs
+BoundIn s reqs = (t : ℕ) (task : Task) → slice_get s.tasks t ≡ Some task → (q : ReqNo) → IsOneOf q task.bound → IsOneOf q reqs
 
 bound_before : (p : Program) (t : ℕ) (def : TaskDef) (was : Task) (after : State) (new : List ReqNo) (q : ReqNo) → (row : Row p t def was after new)
-    → IsIn q row.task.bound → IsIn q was.bound ⊎ IsIn q new
+    → IsOneOf q row.task.bound → IsOneOf q was.bound ⊎ IsOneOf q new
 bound_before p t def was after new q row has = elim (in_or_not row.task.phase) [
-  | inl inside ↦ inl (subst (IsIn q) (row.stays inside.0 inside.1) has)
-  | inr outside ↦ in_either q was.bound new (subst (IsIn q) (row.goes outside) has)
+  | inl inside ↦ inl (subst (IsOneOf q) (row.stays inside.0 inside.1) has)
+  | inr outside ↦ in_either q was.bound new (subst (IsOneOf q) (row.goes outside) has)
 ]
 
 own_bound : (p : Program) (s : State) (t : ℕ) (may : MayMove p s t) (task : Task) (q : ReqNo) → slice_get (step p s t).state.tasks t ≡ Some task
-    → IsIn q task.bound → IsIn q may.task.bound ⊎ IsIn q (opened_by_step p s t [])
+    → IsOneOf q task.bound → IsOneOf q may.task.bound ⊎ IsOneOf q (opened_by_step p s t [])
 own_bound p s t may task q at has =
     let row = move_row p s t may in
     let exists = exists_of_move p s t may in
     let same : row.task ≡ task = same_some (sym row.now ∙ ap (λ (m : Moved). slice_get m.state.tasks t) (sym (step-task p s t exists)) ∙ at) in
-    elim (bound_before p t may.def may.task (move p s t).state (opened p s t) q row (subst (λ (z : Task). IsIn q z.bound) (sym same) has)) [
+    elim (bound_before p t may.def may.task (move p s t).state (opened p s t) q row (subst (λ (z : Task). IsOneOf q z.bound) (sym same) has)) [
       | inl before ↦ inl before
-      | inr opens ↦ inr (subst (IsIn q) (sym (opened-task p s t exists)) opens)
+      | inr opens ↦ inr (subst (IsOneOf q) (sym (opened-task p s t exists)) opens)
     ]
 
 step_bound : (p : Program) (w : ℕ) (s : State) (c : ℕ) (reqs : List ReqNo) → MayStep p w s c → BoundIn s reqs
@@ -337,7 +337,7 @@ none_bound p t task at q has =
     let tasks = length p.tasks.items in
     let within : t < tasks = omega (arith, slice_get_within (replicate tasks waiting_task) t task at, length-replicate tasks waiting_task) in
     let same : task ≡ waiting_task = same_some (sym at ∙ at_replicate tasks waiting_task t within) in
-    subst (λ (z : Task). IsIn q z.bound) same has
+    subst (λ (z : Task). IsOneOf q z.bound) same has
 
 pub bound_opened : BoundWereOpened
 bound_opened p w cs runs = run_bound p w (opening p) cs [] runs (none_bound p)

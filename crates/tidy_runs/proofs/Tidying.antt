@@ -30,7 +30,7 @@ use Rattle.task_local.specs.Packed.{packed}
 use Rattle.task_local.specs.Waits.{handles_of}
 use Rattle.task_machine.specs.Machine.{Moved, move_at, call_move, post_move, await_move, step, MayStep, awaited_at, open_ones}
 use Rattle.task_machine.specs.Legal.{IsDefined, state_after}
-use Rattle.task_machine.specs.Owed.{IsIn}
+use Rattle.task_machine.specs.Owed.{IsOneOf}
 use Rattle.task_machine.proofs.Rows.{move-row}
 use Rattle.task_machine.proofs.Items.{same_some, either_place, at_replicate}
 use Rattle.task_machine.proofs.Runs.{step-task, exists_of_move}
@@ -106,15 +106,15 @@ record Stands (t : ℕ) (noted : List ℕ) (reqs : List ReqNo) (front : List Op)
 -- all that the noted operations name is complete or bound
 abbrev Covered : Program → Exchange → ℕ → TaskDef → List ℕ → List ReqNo → Type 0
 Covered p x t def noted reqs =
-    (k : ℕ) → Contains noted k → (q : ReqNo) → IsIn q (named_at t def k) → (is_complete p x q ≡ true) ⊎ IsIn q reqs
+    (k : ℕ) → Contains noted k → (q : ReqNo) → IsOneOf q (named_at t def k) → (is_complete p x q ≡ true) ⊎ IsOneOf q reqs
 
 -- a noted operation names each of these requests
 abbrev Sourced : ℕ → TaskDef → List ℕ → List ReqNo → Type 0
-Sourced t def noted reqs = (q : ReqNo) → IsIn q reqs → (k : ℕ) × Contains noted k × IsIn q (named_at t def k)
+Sourced t def noted reqs = (q : ReqNo) → IsOneOf q reqs → (k : ℕ) × Contains noted k × IsOneOf q (named_at t def k)
 
 -- none of these requests is awaited by a task that stands there
 abbrev Apart : ℕ → TaskDef → Phase → List ReqNo → Type 0
-Apart t def at reqs = (q : ReqNo) → IsIn q reqs → IsIn q (awaited_at t (Some def) (Some at)) → ⊥
+Apart t def at reqs = (q : ReqNo) → IsOneOf q reqs → IsOneOf q (awaited_at t (Some def) (Some at)) → ⊥
 
 -- the books of a task
 record Keeps (p : Program) (x : Exchange) (t : ℕ) (def : TaskDef) (task : Task) : Type 0 where
@@ -159,8 +159,8 @@ covered_stays p x y t def noted reqs stays covered k has q names = elim (covered
   | inr bound ↦ inr bound
 ]
 
-complete_or_open : (p : Program) (x : Exchange) (q : ReqNo) (named reqs : List ReqNo) → IsIn q named
-    → (is_complete p x q ≡ true) ⊎ (is_complete p x q ≡ false) → (is_complete p x q ≡ true) ⊎ IsIn q (reqs ++ open_ones p x named)
+complete_or_open : (p : Program) (x : Exchange) (q : ReqNo) (named reqs : List ReqNo) → IsOneOf q named
+    → (is_complete p x q ≡ true) ⊎ (is_complete p x q ≡ false) → (is_complete p x q ≡ true) ⊎ IsOneOf q (reqs ++ open_ones p x named)
 complete_or_open p x q named reqs has (inl complete) = inl complete
 complete_or_open p x q named reqs has (inr undone) = inr (in_right q reqs (open_ones p x named) (open_has p x q named undone has))
 
@@ -172,14 +172,14 @@ covered_more p x t k def noted reqs named is covered i has q names = elim (Conta
     | inr bound ↦ inr (in_left q reqs (open_ones p x named) bound)
   ]
   | inr same ↦
-      complete_or_open p x q named reqs (subst (IsIn q) (ap (named_at t def) (sym same) ∙ is) names) (cases_Bool (is_complete p x q))
+      complete_or_open p x q named reqs (subst (IsOneOf q) (ap (named_at t def) (sym same) ∙ is) names) (cases_Bool (is_complete p x q))
 ]
 
 sourced_more : (p : Program) (x : Exchange) (t k : ℕ) (def : TaskDef) (noted : List ℕ) (reqs named : List ReqNo) → named_at t def k ≡ named
     → Sourced t def noted reqs → Sourced t def (noted ++ k ∷ []) (reqs ++ open_ones p x named)
 sourced_more p x t k def noted reqs named is sourced q has = elim (in_either q reqs (open_ones p x named) has) [
   | inl before ↦ let source = sourced q before in (source.0, Contains-append_left noted (k ∷ []) source.0 source.1, source.2)
-  | inr new ↦ (k, Contains-push noted k, subst (IsIn q) (sym is) (open_among p x q named new))
+  | inr new ↦ (k, Contains-push noted k, subst (IsOneOf q) (sym is) (open_among p x q named new))
 ]
 
 -- a task awaits nothing where it stands after its local operations
@@ -207,11 +207,11 @@ next_stands : (t k : ℕ) (def : TaskDef) (noted : List ℕ) (reqs : List ReqNo)
 next_stands t k def noted reqs x here silent s =
     subst (Stands t noted reqs) (sym (take_next def.body.items k x here)) (over_silent t noted reqs (take k def.body.items) x silent s)
 
-own_apart : (t k : ℕ) (def : TaskDef) (reqs : List ReqNo) (q : ReqNo) → IsBoundBy t (take k def.body.items) reqs → IsIn q reqs
-    → IsIn q (request t (nth_at def k) ∷ []) → ⊥
+own_apart : (t k : ℕ) (def : TaskDef) (reqs : List ReqNo) (q : ReqNo) → IsBoundBy t (take k def.body.items) reqs → IsOneOf q reqs
+    → IsOneOf q (request t (nth_at def k) ∷ []) → ⊥
 own_apart t k def reqs q b bound waits = elim (or_cases (same_request q (request t (nth_at def k))) false waits) [
   | inl same ↦
-      let own : IsIn (request t (nth_at def k)) reqs = subst (λ (r : ReqNo). IsIn r reqs) (one_request q (request t (nth_at def k)) same) bound in
+      let own : IsOneOf (request t (nth_at def k)) reqs = subst (λ (r : ReqNo). IsOneOf r reqs) (one_request q (request t (nth_at def k)) same) bound in
       absurd (omega (arith, b.posted (nth_at def k) own))
   | inr none ↦ false≢true none
 ]
@@ -239,17 +239,17 @@ post_kept p s t def was k x true is_task here silent awaits stands covered sourc
     covered = covered_stays p s.exchange _ t def was.named was.bound (λ q. stays_complete p s.exchange (request t (nth_at def k)) q (packed def k was.copy))
         covered;
     sourced = sourced;
-    apart = λ q bound waits. own_apart t k def was.bound q stands.bound bound (subst (IsIn q) (awaits refl) waits);
+    apart = λ q bound waits. own_apart t k def was.bound q stands.bound bound (subst (IsOneOf q) (awaits refl) waits);
   };
 }
 
 -- behind a wait
 named_apart : (t : ℕ) (front : List Op) (handles : List Handle) (reqs : List ReqNo) (q : ReqNo) → IsBoundBy t front reqs
-    → ((n : ℕ) → Contains handles (handle.Nth n) → Contains (left_after 0 front) n) → IsIn q reqs → IsIn q (named_requests t handles) → ⊥
+    → ((n : ℕ) → Contains handles (handle.Nth n) → Contains (left_after 0 front) n) → IsOneOf q reqs → IsOneOf q (named_requests t handles) → ⊥
 named_apart t front handles reqs q b are_open bound waits =
     let own : request t q.nth ≡ q = ap (λ (u : ℕ). request u q.nth) (sym (own_in t reqs q b.own bound)) in
-    let named = named_by t q.nth handles (subst (λ (r : ReqNo). IsIn r (named_requests t handles)) (sym own) waits) in
-    b.closed q.nth (subst (λ (r : ReqNo). IsIn r reqs) (sym own) bound) (are_open q.nth named.0)
+    let named = named_by t q.nth handles (subst (λ (r : ReqNo). IsOneOf r (named_requests t handles)) (sym own) waits) in
+    b.closed q.nth (subst (λ (r : ReqNo). IsOneOf r reqs) (sym own) bound) (are_open q.nth named.0)
 
 await_kept : (p : Program) (s : State) (t : ℕ) (def : TaskDef) (was : Task) (k : ℕ) (later : Bool) (handles : List Handle) (x : Op)
     → slice_get s.tasks t ≡ Some was → slice_get def.body.items k ≡ Some x → binds x ≡ later → awaited t def k ≡ named_requests t handles
@@ -264,7 +264,7 @@ await_kept p s t def was k false handles x is_task here is awaits named adds are
     stands = next_stands t k def was.named was.bound x here is stands;
     covered = covered;
     sourced = sourced;
-    apart = λ q bound waits. named_apart t (take k def.body.items) handles was.bound q stands.bound are_open bound (subst (IsIn q) awaits waits);
+    apart = λ q bound waits. named_apart t (take k def.body.items) handles was.bound q stands.bound are_open bound (subst (IsOneOf q) awaits waits);
   };
 }
 await_kept p s t def was k true handles x is_task here is awaits named adds are_open stands covered sourced =
@@ -423,7 +423,7 @@ pub unbound : (t : ℕ) (bound : List ReqNo) → IsBoundBy t [] bound → bound 
 unbound t [] b = refl
 unbound t (r ∷ bound) b =
     let own : request t r.nth ≡ r = ap (λ (u : ℕ). request u r.nth) (sym b.own.0) in
-    let first : IsIn (request t r.nth) (r ∷ bound) =
+    let first : IsOneOf (request t r.nth) (r ∷ bound) =
     or_left (same_request (request t r.nth) r) (list_any (same_request (request t r.nth)) bound) (same_from_eq (request t r.nth) r own) in
     absurd (omega (arith, b.posted r.nth first))
 

@@ -12,7 +12,7 @@ use Rattle.rt_base.specs.MayMove.{MayMove}
 use Rattle.rt_base.specs.WellFormed.{WellFormed}
 use Rattle.task_machine.specs.Machine.{move, step, is_expected, open_ones}
 use Rattle.task_machine.specs.Legal.{IsDefined, state_of}
-use Rattle.task_machine.specs.Owed.{opened, opened_by_step, IsIn, IsOwed}
+use Rattle.task_machine.specs.Owed.{opened, opened_by_step, IsOneOf, IsOwed}
 use Rattle.tidy_runs.specs.Tidy.{AreOf}
 
 -- all that the steps of these callers open, in order: a move what it opens, a poll nothing (TAMPI, completion by polling)
@@ -37,20 +37,20 @@ abbrev pub OpenedAreNew : Type 0
 OpenedAreNew =
     (program : Program) (workers : ℕ) (callers : List ℕ) → WellFormed program → IsDefined program workers (opening program) callers
     → (t : ℕ) → MayMove program (state_of program callers) t
-    → (req : ReqNo) → IsIn req (opened program (state_of program callers) t) → IsIn req (openings program (opening program) callers) → ⊥
+    → (req : ReqNo) → IsOneOf req (opened program (state_of program callers) t) → IsOneOf req (openings program (opening program) callers) → ⊥
 
 -- what is owed after a run was opened in it (TAMPI, completion by polling)
 abbrev pub OwedWereOpened : Type 0
 OwedWereOpened =
     (program : Program) (workers : ℕ) (callers : List ℕ) → IsDefined program workers (opening program) callers
-    → (req : ReqNo) → IsOwed program (state_of program callers) req → IsIn req (openings program (opening program) callers)
+    → (req : ReqNo) → IsOwed program (state_of program callers) req → IsOneOf req (openings program (opening program) callers)
 
 -- what is bound to a task after a run was opened in it (TAMPI, TAMPI_Iwait)
 abbrev pub BoundWereOpened : Type 0
 BoundWereOpened =
     (program : Program) (workers : ℕ) (callers : List ℕ) → IsDefined program workers (opening program) callers
     → (t : ℕ) (task : Task) → slice_get (state_of program callers).tasks t ≡ Some task
-    → (req : ReqNo) → IsIn req task.bound → IsIn req (openings program (opening program) callers)
+    → (req : ReqNo) → IsOneOf req task.bound → IsOneOf req (openings program (opening program) callers)
 
 -- what the move of task t makes of what it opens: where the task is in operation k after it, it came there by this move, what is bound stays,
 -- and the opened requests are those that it awaits there and that are incomplete; if there are none it may go on. Wherever else it is, the opened
@@ -67,7 +67,7 @@ pub record Opens (program : Program) (state : State) (t : ℕ) : Type 0 where
   pub waits : (k : ℕ) → after.phase ≡ phase.In k
       → opened program state t ≡ open_ones program (move program state t).state.exchange (awaited t def k)
   pub goes : ((k : ℕ) → after.phase ≡ phase.In k → ⊥) → after.bound ≡ before.bound ++ opened program state t
-  pub incomplete : (req : ReqNo) → IsIn req (opened program state t) → is_complete program (move program state t).state.exchange req ≡ false
+  pub incomplete : (req : ReqNo) → IsOneOf req (opened program state t) → is_complete program (move program state t).state.exchange req ≡ false
   pub none_open : (k : ℕ) → after.phase ≡ phase.In k → opened program state t ≡ [] → MayMove program (move program state t).state t
 
 -- so does every move that may be made, in any state
@@ -77,7 +77,7 @@ MovesOpen = (program : Program) (state : State) (t : ℕ) → MayMove program st
 -- what a move opens is owed after it: its task is still to be told of it (TAMPI, completion by polling)
 abbrev pub OpenedAreOwed : Type 0
 OpenedAreOwed =
-    (program : Program) (state : State) (t : ℕ) → MayMove program state t → (req : ReqNo) → IsIn req (opened program state t)
+    (program : Program) (state : State) (t : ℕ) → MayMove program state t → (req : ReqNo) → IsOneOf req (opened program state t)
     → IsOwed program (move program state t).state req
 
 -- an incomplete request that is expected still is after a move: what is bound stays bound, and a task leaves an operation only when all that it

@@ -25,9 +25,11 @@ pub record Row : Type 0 where
   pub act : Act
   pub nexts : List Next
 
+-- a shape after an answer
 abbrev pub to : Answer → Shape → Next
 to answer shape = record { answer = answer; shape = shape }
 
+-- a row of the table
 abbrev pub row : Act → List Next → Row
 row act nexts = record { act = act; nexts = nexts }
 

@@ -1,4 +1,5 @@
-use Rattle.block_kernels.proofs.Lengths.{length-filled, length-ramped, length-copied, length-added, length-subtracted, length-scaled, length-shifted, length-jacobi}
+use Rattle.block_kernels.proofs.Lengths.{length-filled, length-ramped, length-copied, length-added, length-subtracted, length-scaled, length-shifted}
+use Rattle.block_kernels.proofs.Lengths.{length-jacobi}
 use Rattle.block_kernels.proofs.laws.lengths.Goals as goal
 
 pub returns : goal.returns

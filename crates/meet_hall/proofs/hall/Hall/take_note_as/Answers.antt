@@ -14,7 +14,8 @@ use Rattle.meet_hall.specs.Holders.{HolderIs, TicketIs, desk, chit}
 use Rattle.meet_hall.specs.Views.{issuing_desk, noted_desk, next_desk, chit_from, desk_of, chit_of, slot_of}
 use Rattle.meet_hall.specs.Places.{ListsAre}
 use Rattle.meet_hall.specs.Rule.{lists_of}
-use Rattle.meet_hall.proofs.Allowed.{sits_is, may_exchange, ending_is, hands_as, issues_as, opens_as, parks_as, brings_as, arrives_as, takes_record_as, rearms_as, takes_out_as, returns_as}
+use Rattle.meet_hall.proofs.Allowed.{sits_is, may_exchange, ending_is, hands_as, issues_as, opens_as, parks_as, brings_as, arrives_as}
+use Rattle.meet_hall.proofs.Allowed.{takes_record_as, rearms_as, takes_out_as, returns_as}
 use Rattle.meet_hall.proofs.hall.Hall.take_note_as.Goals as goal
 
 pub load-requires : goal.load-requires

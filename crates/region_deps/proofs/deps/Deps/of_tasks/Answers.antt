@@ -2,7 +2,7 @@
 use Rattle.std.proofs.Common.{List, ap, sym, subst, ◌∙◌, arith}
 use Rattle.rt_base.specs.declared.data.TaskDef.{TaskDef}
 use Rattle.rt_base.specs.declared.data.Program.{Program}
-use Rattle.region_deps.specs.Holding.{IsOrderly, IsHeld, IsLinkedUp}
+use Rattle.region_deps.specs.Holding.{IsOrderly, IsUpToDate, IsLinkedUp}
 use Rattle.region_deps.proofs.Beginnings.{accesses_read, links_within, held_first}
 use Rattle.region_deps.proofs.Precedence.{region_count_is}
 use Rattle.region_deps.proofs.deps.Deps.of_tasks.Goals as goal
@@ -49,7 +49,7 @@ invariant_of-result c =
     let built = c.in_ok-build.ensures in
     let sizes = c.in_ok-waiting.ensures in
     let tasks_are = c.as_slice-tasks.ensures ∙ sym (ap (λ (p : Program). p.tasks.items) c.of.ensures) in
-    subst (λ (tasks : List TaskDef). IsHeld tasks c.in_ok-build.field-0 c.in_ok-first.first.items c.in_ok-heads.heads.items c.in_ok-waiting.waiting.items
+    subst (λ (tasks : List TaskDef). IsUpToDate tasks c.in_ok-build.field-0 c.in_ok-first.first.items c.in_ok-heads.heads.items c.in_ok-waiting.waiting.items
     c.in_ok-none_yet.field-0.items) tasks_are
     (held_first c.as_slice-tasks.result.now c.in_ok-links.links.items c.in_ok-build.field-0 c.in_ok-first.first.items c.in_ok-heads.heads.items
     c.deref.result.now c.in_ok-waiting.waiting.items
